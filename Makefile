@@ -1,0 +1,5 @@
+.PHONY: test
+
+# Prove and test everything, from nothing.
+test:
+	@bash scripts/test

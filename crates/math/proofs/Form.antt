@@ -1,0 +1,78 @@
+-- What a test says of a float's form. Assumes nothing.
+use mathlib.Core.Path.{_≡_, refl, sym, ap, _∙_}
+use mathlib.Core.Bool.{Bool, true, false, _&&_, _||_, Bool·beq, true≢false, false≢true}
+use Prim.Native.Nat.{ℕ, zero, suc, _+_, _*_, _^_, _<_, _≤_}
+use native.Mathlib.Nat.{mul-one, one-mul, zero-mul, mul-pos, zero-lt-suc, pow-succ'}
+use native.Mathlib.Omega.{arith}
+use borrow.Author.Tests.{ltb-true, ltb-false, eqb-true, eq-eqb}
+use lib.IntN.{ℤ, pos, negsuc}
+use lib.Dec.{T, ltb, eqb, eqb→eq}
+use lib.Pow.{pow-pos}
+use lib.Ieee.{Float, nan, inf, fin, Format, up, down, lt, eq, ne, neg, fits, isNan, ofBits}
+use lib.Ieee.Fits.{up-pos}
+use Rattle.math.specs.Rounded.{zeroF}
+use Rattle.math.specs.Range.{sizeOf, finiteOf}
+use Rattle.math.proofs.Fitting.{no-size}
+
+-- only a NaN differs from itself
+pub ne-self : (x : Float) → ne x x ≡ isNan x
+unfolding ne isNan
+ne-self nan = refl
+ne-self (inf true) = refl
+ne-self (inf false) = refl
+ne-self (fin true m e) = simp (eq-eqb (m * up e * down e) (m * up e * down e) refl)
+ne-self (fin false m e) = simp (eq-eqb (m * up e * down e) (m * up e * down e) refl)
+
+-- above -infinity and below +infinity
+pub between-infinities : (x : Float) → lt (inf true) x && lt x (inf false) ≡ finiteOf x
+unfolding lt
+between-infinities nan = refl
+between-infinities (inf true) = refl
+between-infinities (inf false) = refl
+between-infinities (fin s m e) = refl
+
+-- ---- the size without the sign, by the tests x < 0 and x == 0
+nothing-below : (a b : ℕ) → b ≡ 0 → ltb a b ≡ true → ⊥
+nothing-below a b z h = omega (arith, ltb-true a b h)
+
+none : (d : ℕ) → 0 * 1 * d ≡ 0
+none d = ap (λ (k : ℕ). k * d) (zero-mul 1) ∙ zero-mul d
+
+pub size-below : (x : Float) → lt x zeroF ≡ true → neg x ≡ sizeOf x
+unfolding lt neg ofBits
+size-below nan h = absurd (false≢true h)
+size-below (inf true) h = refl
+size-below (inf false) h = absurd (false≢true h)
+size-below (fin true m e) h = refl
+size-below (fin false m e) h = absurd (nothing-below (m * up e * 1) (0 * 1 * down e) (none (down e)) h)
+
+and-left : (a b : Bool) → (a && b) ≡ true → a ≡ true
+and-left true b h = refl
+and-left false b h = h
+
+pub size-zero : (f : Format) (x : Float) → T (fits f x) → eq x zeroF ≡ true → zeroF ≡ sizeOf x
+unfolding eq ofBits
+size-zero f nan t h = absurd (false≢true h)
+size-zero f (inf s) t h = absurd (false≢true h)
+size-zero f (fin s m e) t h =
+    sym (zero-of (no-size f s m e t (sym (mul-one (m * up e)) ∙ eqb-true (m * up e * 1) (0 * 1 * down e) (and-left (eqb (m * up e * 1) (0 * 1 * down e)) (Bool·beq s false || eqb (m * up e * 1) 0) h) ∙ none (down e))))
+  where
+    zero-of : (m ≡ 0) × (e ≡ pos 0) → fin false m e ≡ fin false 0 (pos 0)
+    zero-of z = λ i. fin false (z .0 i) (z .1 i)
+
+-- -a is not below 0, so a is 0, and then it is level with 0
+not-less : (a z : ℕ) → z ≡ 0 → ltb 0 (a + z) ≡ false → (eqb a z && (false || eqb a 0)) ≡ false → ⊥
+not-less a z e h k =
+    let n : a ≡ 0 = zero-of (ltb-false 0 (a + z) h) in
+    false≢true (sym k ∙ ap (λ (x : ℕ). eqb x z && eqb x 0) n ∙ ap (λ (x : ℕ). eqb 0 x && true) e)
+  where
+    zero-of : a + z ≤ 0 → a ≡ 0
+    zero-of g = omega arith
+
+pub size-above : (x : Float) → lt x zeroF ≡ false → eq x zeroF ≡ false → x ≡ sizeOf x
+unfolding lt eq ofBits
+size-above nan h k = refl
+size-above (inf true) h k = absurd (true≢false h)
+size-above (inf false) h k = refl
+size-above (fin false m e) h k = refl
+size-above (fin true m e) h k = absurd (not-less (m * up e * 1) (0 * 1 * down e) (none (down e)) h k)

@@ -1,0 +1,5 @@
+mod Ceiling
+mod Fitting
+mod Form
+mod WholePart
+pub mod Wholes

@@ -1,0 +1,3 @@
+pub mod Rounded
+pub mod Range
+pub mod Whole

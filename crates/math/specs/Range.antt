@@ -1,0 +1,28 @@
+-- Document 01, "Easing" and "Order of the port": clamp, max with 0, the size without its sign, and which floats are finite.
+use mathlib.Core.Bool.{Bool, true, false, cond}
+use lib.Ieee.{Float, nan, inf, fin, lt}
+use Rattle.math.specs.Rounded.{zeroF, oneF}
+
+-- "Clamping keeps a zero's sign": what lies from lo to hi stays as it is; a NaN stays one
+abbrev pub clampOf : Float → Float → Float → Float
+clampOf x lo hi = cond (lt x lo) lo (cond (lt hi x) hi x)
+
+-- "clamped to 0..1, infinities too"
+abbrev pub clamp01Of : Float → Float
+clamp01Of x = clampOf x zeroF oneF
+
+-- "max with 0 gives +0 for either zero, and 0 for NaN"
+abbrev pub maxZeroOf : Float → Float
+maxZeroOf x = cond (lt zeroF x) x zeroF
+
+-- "size without sign": a NaN stays one
+abbrev pub sizeOf : Float → Float
+sizeOf nan = nan
+sizeOf (inf s) = inf false
+sizeOf (fin s m e) = fin false m e
+
+-- neither a NaN nor an infinity
+abbrev pub finiteOf : Float → Bool
+finiteOf nan = false
+finiteOf (inf s) = false
+finiteOf (fin s m e) = true

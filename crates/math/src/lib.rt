@@ -1,0 +1,13 @@
+// Helpers on one f32, which every layer leans on.
+mod class;
+mod range;
+mod whole;
+
+pub use class::is_finite;
+pub use class::is_nan;
+pub use range::clamp;
+pub use range::clamp01;
+pub use range::max_zero;
+pub use range::size;
+pub use whole::ceil;
+pub use whole::whole_part;

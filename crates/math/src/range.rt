@@ -1,0 +1,43 @@
+// Keeping a float in a range.
+ghost use mathlib.Core.Path.{_≡_};
+ghost use Rattle.math.specs.Range.{clampOf, clamp01Of, maxZeroOf, sizeOf};
+
+// Rust's f32::clamp, which panics where lo is above hi or either is a NaN; here lo is then tested first.
+pub fn clamp(x: f32, lo: f32, hi: f32) -> f32
+    ensures { λ r. ⌜ r ≡ clampOf x lo hi ⌝ }
+{
+    if x < lo {
+        return lo;
+    }
+    if x > hi {
+        return hi;
+    }
+    x
+}
+
+// From 0 to 1: a zero keeps its sign, and a NaN stays one.
+pub fn clamp01(x: f32) -> f32
+    ensures { λ r. ⌜ r ≡ clamp01Of x ⌝ }
+{
+    clamp(x, 0.0, 1.0)
+}
+
+// The larger of x and 0: +0 for either zero, and for a NaN.
+pub fn max_zero(x: f32) -> f32
+    ensures { λ r. ⌜ r ≡ maxZeroOf x ⌝ }
+{
+    if x > 0.0 { x } else { 0.0 }
+}
+
+// The size of x without its sign, Rust's f32::abs.
+pub fn size(x: f32) -> f32
+    ensures { λ r. ⌜ r ≡ sizeOf x ⌝ }
+{
+    if x < 0.0 {
+        -x
+    } else if x == 0.0 {
+        0.0
+    } else {
+        x
+    }
+}
