@@ -130,3 +130,16 @@ stays (fin true m e) t h k =
 
     far : (a d : ℕ) → 1 * 16777216 * d ≤ a * 1 → 16777216 * d ≤ a
     far a d h = omega arith
+
+-- ---- the definition is what it says: a / d is at most its ceiling, and above every whole number below that
+pub ceiling-least : (a d : ℕ) → 0 < d → (a ≤ (a + (d - 1)) / d * d) × ((k : ℕ) → k < (a + (d - 1)) / d → k * d < a)
+ceiling-least a d D = (
+  reach ((a + (d - 1)) / d * d) ((a + (d - 1)) % d) (div-add-mod' (a + (d - 1)) d) (mod-lt (a + (d - 1)) D),
+  λ k l. short (k * d) (suc k * d) (suc-mul k d) (le-div-iff-mul-le D .0 l),
+)
+  where
+    reach : (w r : ℕ) → w + r ≡ a + (d - 1) → r < d → a ≤ w
+    reach w r h l = omega arith
+
+    short : (w z : ℕ) → z ≡ w + d → z ≤ a + (d - 1) → w < a
+    short w z e l = omega arith

@@ -1,5 +1,9 @@
-mod Ceiling
+pub mod Ceiling
 mod Fitting
 mod Form
+pub mod Order
+pub mod Ranges
+pub mod Sizes
+pub mod Upward
 mod WholePart
 pub mod Wholes

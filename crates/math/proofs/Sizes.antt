@@ -1,0 +1,148 @@
+-- How large a rounded result can be: sums, differences and products of floats that are at most p and q in size. Assumes nothing.
+use mathlib.Core.Path.{_≡_, refl, sym, ap, _∙_, subst, subst⁻¹}
+use mathlib.Core.Bool.{Bool, true, false, not, _&&_, Bool·beq, cond}
+use Prim.Native.Nat.{ℕ, zero, suc, _+_, _-_, _*_, _^_, _<_, _≤_, zero-le}
+use native.Mathlib.Nat.{mul-pos, mul-one, mul-le-mul, mul-le-mul-right, mul-mul-mul-comm, le-of-eq, le-trans, zero-lt-suc}
+use native.Mathlib.Omega.{arith}
+use lib.IntN.{ℤ, pos}
+use lib.Dec.{T, leb, ltb, leb→le}
+use lib.Ieee.{Float, nan, inf, fin, Format, unlike, prec, emax, low, up, down, odd, units, round, sum, add, sub, mul, neg, lt, le, eq, isNan, ofInt, ofBits}
+use lib.Ieee.Fits.{down-pos, round-is}
+use lib.Ieee.Order.{drop, kept, round-mono}
+use Rattle.math.specs.Range.{finiteOf}
+use Rattle.math.proofs.Order.{le-turned, not-ltb, times-none}
+use Rattle.math.proofs.Upward.{Up, up-none, none-of, round-up}
+use Rattle.math.proofs.Wholes.{Is, is-number, lt-fraction}
+
+-- finite, and at most n in size
+abbrev pub AtMost : ℕ → Float → Type 0
+AtMost n nan = ⊥
+AtMost n (inf s) = ⊥
+AtMost n (fin s m e) = m * up e ≤ n * down e
+
+pub at-most-finite : (n : ℕ) (x : Float) → AtMost n x → T (finiteOf x)
+at-most-finite n nan h = absurd h
+at-most-finite n (inf s) h = absurd h
+at-most-finite n (fin s m e) h = tt
+
+pub at-most-number : (n : ℕ) (x : Float) → AtMost n x → isNan x ≡ false
+unfolding isNan
+at-most-number n nan h = absurd h
+at-most-number n (inf s) h = absurd h
+at-most-number n (fin s m e) h = refl
+
+pub at-most-more : (n k : ℕ) (x : Float) → n ≤ k → AtMost n x → AtMost k x
+at-most-more n k nan l h = h
+at-most-more n k (inf s) l h = h
+at-most-more n k (fin s m e) l h = le-trans h (mul-le-mul-right (down e) l)
+
+-- ---- from 0 to n, by comparison
+plain-number : (m : ℕ) (e : ℤ) → isNan (fin false m e) ≡ false
+unfolding isNan
+plain-number m e = refl
+
+pub le-whole : (n m : ℕ) (e : ℤ) (z : Float) → Is z n → le (fin false m e) z ≡ leb (m * up e) (n * down e)
+le-whole n m e z v = le-turned (fin false m e) z (plain-number m e) (is-number z n v) ∙ ap not (lt-fraction z n m e v) ∙ not-ltb (m * up e) (n * down e)
+
+pub up-to : (n : ℕ) (x z : Float) → Is z n → Up x → T (le x z) → AtMost n x
+unfolding le lt eq ofBits
+up-to n nan z v h k = absurd h
+up-to n (inf true) z v h k = absurd h
+up-to n (inf false) nan v h k = absurd v
+up-to n (inf false) (inf t) v h k = absurd v
+up-to n (inf false) (fin t o d) v h k = absurd k
+up-to n (fin true m e) z v h k = subst⁻¹ (λ (a : ℕ). a ≤ n * down e) (up-none m e h) zero-le
+up-to n (fin false m e) z v h k = leb→le (m * up e) (n * down e) (subst T (le-whole n m e z v) k)
+
+-- ---- rounding changes only the sign with the sign
+odd-neg : (d q k l : ℕ) → odd d true q k l ≡ neg (odd d false q k l)
+unfolding odd neg
+odd-neg d zero k l = refl
+odd-neg d (suc q) k l = refl
+
+units-neg : (f : Format) (q k : ℕ) → units f true q k ≡ neg (units f false q k)
+unfolding units neg
+units-neg f q k = go (ltb (q * 2 ^ k) (2 ^ (low f + suc (emax f))))
+  where
+    go : (b : Bool) → cond b (odd (suc (prec f)) true q k (low f)) (inf true) ≡ neg (cond b (odd (suc (prec f)) false q k (low f)) (inf false))
+    go true = odd-neg (suc (prec f)) q k (low f)
+    go false = refl
+
+pub round-neg : (f : Format) (a c : ℕ) → round f true a c ≡ neg (round f false a c)
+round-neg f a c = round-is f true a c ∙ units-neg f (kept (prec f) (a * 2 ^ low f) c) (drop (prec f) (a * 2 ^ low f) c) ∙ ap neg (sym (round-is f false a c))
+
+pub at-most-neg : (n : ℕ) (x : Float) → AtMost n x → AtMost n (neg x)
+unfolding neg
+at-most-neg n nan h = h
+at-most-neg n (inf s) h = h
+at-most-neg n (fin s m e) h = h
+
+pub at-most-either : (n : ℕ) (b : Bool) (x y : Float) → AtMost n x → AtMost n y → AtMost n (cond b x y)
+at-most-either n true x y h k = h
+at-most-either n false x y h k = k
+
+-- ---- the operations of a format that holds the whole number n
+module _ (f : Format) (n : ℕ) (held : Is (ofInt f (pos n)) n) where
+  pub round-at-most : (s : Bool) (a c : ℕ) → 0 < c → a ≤ n * c → AtMost n (round f s a c)
+  unfolding ofInt
+  round-at-most s a c C h = go s
+    where
+      plain : AtMost n (round f false a c)
+      plain = up-to n (round f false a c) (round f false n 1) held (round-up f a c C) (round-mono f a c n 1 C (zero-lt-suc 0) (le-trans (le-of-eq (mul-one a)) h))
+
+      go : (s : Bool) → AtMost n (round f s a c)
+      go false = plain
+      go true = subst⁻¹ (AtMost n) (round-neg f a c) (at-most-neg n (round f false a c) plain)
+
+  -- like signs add up, and unlike signs leave the difference
+  sum-at-most : (s : Bool) (a : ℕ) (t : Bool) (b c : ℕ) → 0 < c → a + b ≤ n * c → AtMost n (sum f s a t b c)
+  unfolding sum
+  sum-at-most s a t b c C h =
+      at-most-either n (Bool·beq s t) _ _ (round-at-most s (a + b) c C h)
+      (at-most-either n (ltb a b) _ _ (round-at-most t (b - a) c C (omega arith)) (round-at-most (s && ltb b a) (a - b) c C (omega arith)))
+
+  sum-near : (s : Bool) (a b c : ℕ) → 0 < c → a ≤ n * c → b ≤ n * c → AtMost n (sum f s a (not s) b c)
+  unfolding sum
+  sum-near true a b c C h k = at-most-either n (ltb a b) _ _ (round-at-most false (b - a) c C (omega arith)) (round-at-most (ltb b a) (a - b) c C (omega arith))
+  sum-near false a b c C h k = at-most-either n (ltb a b) _ _ (round-at-most true (b - a) c C (omega arith)) (round-at-most false (a - b) c C (omega arith))
+
+  pub add-at-most : (p q : ℕ) (x y : Float) → p + q ≤ n → AtMost p x → AtMost q y → AtMost n (add f x y)
+  unfolding add
+  add-at-most p q nan y l h k = absurd h
+  add-at-most p q (inf s) y l h k = absurd h
+  add-at-most p q (fin s m e) nan l h k = absurd k
+  add-at-most p q (fin s m e) (inf t) l h k = absurd k
+  add-at-most p q (fin s m e) (fin t o d) l h k =
+      sum-at-most s (m * up e * down d) t (o * up d * down e) (down e * down d) (mul-pos (down-pos e) (down-pos d))
+      (omega (arith, mul-le-mul-right (down d) h, mul-le-mul-right (down e) k, mul-le-mul-right (down e * down d) l))
+
+  pub sub-at-most : (p q : ℕ) (x y : Float) → p + q ≤ n → AtMost p x → AtMost q y → AtMost n (sub f x y)
+  unfolding sub
+  sub-at-most p q x y l h k = add-at-most p q x (neg y) l h (at-most-neg q y k)
+
+  pub mul-at-most : (p q : ℕ) (x y : Float) → p * q ≤ n → AtMost p x → AtMost q y → AtMost n (mul f x y)
+  unfolding mul
+  mul-at-most p q nan y l h k = absurd h
+  mul-at-most p q (inf s) y l h k = absurd h
+  mul-at-most p q (fin s m e) nan l h k = absurd k
+  mul-at-most p q (fin s m e) (inf t) l h k = absurd k
+  mul-at-most p q (fin s m e) (fin t o d) l h k =
+      round-at-most (unlike s t) (m * up e * (o * up d)) (down e * down d) (mul-pos (down-pos e) (down-pos d))
+      (le-trans (mul-le-mul h k) (le-trans (le-of-eq (mul-mul-mul-comm p (down e) q (down d))) (mul-le-mul-right (down e * down d) l)))
+
+  -- the difference of two floats from 0 up
+  up-near : (s t : Bool) (a b c : ℕ) → (s ≡ true → a ≡ 0) → (t ≡ true → b ≡ 0) → 0 < c → a ≤ n * c → b ≤ n * c → AtMost n (sum f s a (not t) b c)
+  up-near true true a b c p q C h k = sum-near true a b c C h k
+  up-near false false a b c p q C h k = sum-near false a b c C h k
+  up-near true false a b c p q C h k = sum-at-most true a true b c C (omega (arith, p refl))
+  up-near false true a b c p q C h k = sum-at-most false a false b c C (omega (arith, q refl))
+
+  pub sub-near : (x y : Float) → Up x → Up y → AtMost n x → AtMost n y → AtMost n (sub f x y)
+  unfolding sub add neg
+  sub-near nan y u v h k = absurd h
+  sub-near (inf s) y u v h k = absurd h
+  sub-near (fin s m e) nan u v h k = absurd k
+  sub-near (fin s m e) (inf t) u v h k = absurd k
+  sub-near (fin s m e) (fin t o d) u v h k =
+      up-near s t (m * up e * down d) (o * up d * down e) (down e * down d) (λ p. times-none (m * up e) (down d) (none-of s m e u p)) (λ p. times-none (o * up d) (down e) (none-of t o d v p))
+      (mul-pos (down-pos e) (down-pos d)) (omega (arith, mul-le-mul-right (down d) h)) (omega (arith, mul-le-mul-right (down e) k))
