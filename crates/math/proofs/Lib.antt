@@ -1,4 +1,5 @@
 pub mod Ceiling
+mod Examples
 mod Fitting
 mod Form
 pub mod Order
