@@ -1,12 +1,12 @@
 -- The least whole number that is not below a float: below 2 ^ 24 in size from the whole part, and from there on the float itself. Assumes nothing.
 use mathlib.Core.Path.{_≡_, refl, sym, ap, _∙_, subst, subst⁻¹}
 use mathlib.Core.Logic.{_⊎_, inl, inr, ⊎-elim}
-use mathlib.Core.Bool.{Bool, true, false, _&&_, true≢false, false≢true}
-use Prim.Native.Nat.{ℕ, zero, suc, _+_, _-_, _*_, _/_, _%_, _^_, _<_, _≤_, min}
-use native.Mathlib.Nat.{suc-mul, le-div-iff-mul-le, div-add-mod', mod-lt, mul-one, one-mul, add-mul, add-zero, le-of-lt, div-one}
+use mathlib.Core.Bool.{Bool, true, false, _&&_, false≢true}
+use Prim.Native.Nat.{ℕ, suc, _+_, _-_, _*_, _/_, _%_, _^_, _<_, _≤_, min}
+use native.Mathlib.Nat.{suc-mul, le-div-iff-mul-le, div-add-mod', mod-lt, one-mul, add-mul, add-zero, le-of-lt, div-one}
 use native.Mathlib.Omega.{arith}
 use borrow.Author.Tests.{ltb-true, ltb-false}
-use lib.IntN.{ℤ, pos, negsuc}
+use lib.IntN.{ℤ, pos}
 use lib.Arith.{digits-div}
 use lib.Dec.{T, ltb}
 use lib.Ieee.{Float, nan, inf, fin, binary32, up, down, lt, neg, fits, toUnsigned, ofInt, round, ofBits}
@@ -17,9 +17,9 @@ use Rattle.math.specs.Rounded.{zeroF, f32}
 use Rattle.math.specs.Whole.{ceilOf, wholePartOf}
 use Rattle.math.proofs.Fitting.{no-size, held, no-fraction}
 use Rattle.math.proofs.WholePart.{part-below}
-use Rattle.math.proofs.Wholes.{Is, lt-fraction}
+use Rattle.math.proofs.Wholes.{lt-fraction}
 
--- ---- the least whole number not below a / d, by whether the whole part is below it
+-- the least whole number not below a / d, by whether the whole part is below it
 up-more : (a d : ℕ) → 0 < d → a / d * d < a → (a + (d - 1)) / d ≡ a / d + 1
 up-more a d D h =
     let s : a / d * d + a % d ≡ a = div-add-mod' a d in
@@ -131,7 +131,7 @@ stays (fin true m e) t h k =
     far : (a d : ℕ) → 1 * 16777216 * d ≤ a * 1 → 16777216 * d ≤ a
     far a d h = omega arith
 
--- ---- the definition is what it says: a / d is at most its ceiling, and above every whole number below that
+-- the definition is what it says: a / d is at most its ceiling, and above every whole number below that
 pub ceiling-least : (a d : ℕ) → 0 < d → (a ≤ (a + (d - 1)) / d * d) × ((k : ℕ) → k < (a + (d - 1)) / d → k * d < a)
 ceiling-least a d D = (
   reach ((a + (d - 1)) / d * d) ((a + (d - 1)) % d) (div-add-mod' (a + (d - 1)) d) (mod-lt (a + (d - 1)) D),

@@ -1,7 +1,7 @@
 -- The helpers' definitions, computed. Assumes nothing.
 use mathlib.Core.Path.{_≡_, refl}
 use lib.Ieee.{nan, inf, lt, neg, ofInt, toUnsigned, ofBits}
-use mathlib.Core.Bool.{true, false}
+use mathlib.Core.Bool.{false}
 use Rattle.math.specs.Rounded.{f32}
 use Rattle.math.specs.Range.{clamp01Of, maxZeroOf, sizeOf}
 use Rattle.math.specs.Whole.{ceilOf, wholePartOf}

@@ -1,18 +1,16 @@
 -- What a format's holding a value says of the value: it has at most `prec` digits and lies in reach, a zero has one form, and where it is whole it is that whole number, rounded. Assumes nothing.
 use mathlib.Core.Path.{_≡_, refl, sym, ap, _∙_}
-use mathlib.Core.Bool.{Bool, true, false, _&&_}
-use mathlib.Core.Logic.{_⊎_, inl, inr}
-use Prim.Native.Nat.{ℕ, zero, suc, _+_, _*_, _%_, _^_, _<_, _≤_}
+use mathlib.Core.Bool.{Bool, false}
+use Prim.Native.Nat.{ℕ, zero, suc, _+_, _*_, _^_, _<_, _≤_}
 use native.Mathlib.Nat.{zero-mul, mul-one, one-mul, mul-assoc, mul-pos, zero-lt-suc, le-of-eq, le-trans, lt-of-lt-of-le, lt-of-le-of-lt, lt-irrefl, le-mul-of-pos-right, pow-succ', add-comm}
 use native.Mathlib.Omega.{arith}
 use lib.IntN.{ℤ, pos, negsuc}
 use lib.Pow.{pow-pos, pow-add, shl-lt}
-use lib.Dec.{T, ltb, leb, eqb, ltb→lt, eqb→eq}
-use lib.Ieee.{Float, fin, Format, prec, emax, low, up, down, fits, ofInt, ofBits}
+use lib.Dec.{T, ltb→lt, eqb→eq}
+use lib.Ieee.{fin, Format, prec, emax, low, up, down, fits, ofInt}
 use lib.Ieee.Fits.{up-pos, and-l, and-r, ofInt-fits}
 use lib.Ieee.Exact.{round-exact}
 use lib.Ieee.Back.{round-whole, whole-unique}
-use Rattle.math.specs.Rounded.{zeroF}
 
 pub few-digits : (f : Format) (s : Bool) (m : ℕ) (e : ℤ) → T (fits f (fin s m e)) → m < 2 ^ prec f
 unfolding fits
@@ -23,7 +21,7 @@ pub in-reach : (f : Format) (s : Bool) (m : ℕ) (e : ℤ) → T (fits f (fin s 
 unfolding fits
 in-reach f s m e t = ltb→lt (suc m * up e) (2 ^ suc (emax f) * down e) (search (and-l, and-r))
 
--- ---- a zero
+-- a zero
 some : (a : ℕ) → 0 < a → a ≡ 0 → ⊥
 some a h e = omega arith
 
@@ -41,7 +39,7 @@ unfolding fits
 no-size f s zero e t h = (refl, flat e (eqb→eq (up e * down e) 1 t))
 no-size f s (suc m) e t h = absurd (some (suc m * up e) (mul-pos (zero-lt-suc m) (up-pos e)) h)
 
--- ---- a whole number
+-- a whole number
 pub held : (f : Format) (m k : ℕ) → T (fits f (fin false m (pos k))) → ofInt f (pos (m * 2 ^ k)) ≡ fin false m (pos k)
 unfolding ofInt
 held f zero k t =

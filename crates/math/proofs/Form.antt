@@ -1,15 +1,13 @@
 -- What a test says of a float's form. Assumes nothing.
 use mathlib.Core.Path.{_≡_, refl, sym, ap, _∙_}
 use mathlib.Core.Bool.{Bool, true, false, _&&_, _||_, Bool·beq, true≢false, false≢true}
-use Prim.Native.Nat.{ℕ, zero, suc, _+_, _*_, _^_, _<_, _≤_}
-use native.Mathlib.Nat.{mul-one, one-mul, zero-mul, mul-pos, zero-lt-suc, pow-succ'}
+use Prim.Native.Nat.{ℕ, _+_, _*_, _≤_}
+use native.Mathlib.Nat.{mul-one, zero-mul}
 use native.Mathlib.Omega.{arith}
 use borrow.Author.Tests.{ltb-true, ltb-false, eqb-true, eq-eqb}
-use lib.IntN.{ℤ, pos, negsuc}
-use lib.Dec.{T, ltb, eqb, eqb→eq}
-use lib.Pow.{pow-pos}
+use lib.IntN.{pos}
+use lib.Dec.{T, ltb, eqb}
 use lib.Ieee.{Float, nan, inf, fin, Format, up, down, lt, eq, ne, neg, fits, isNan, ofBits}
-use lib.Ieee.Fits.{up-pos}
 use Rattle.math.specs.Rounded.{zeroF}
 use Rattle.math.specs.Range.{sizeOf, finiteOf}
 use Rattle.math.proofs.Fitting.{no-size}
@@ -31,7 +29,7 @@ between-infinities (inf true) = refl
 between-infinities (inf false) = refl
 between-infinities (fin s m e) = refl
 
--- ---- the size without the sign, by the tests x < 0 and x == 0
+-- the size without the sign, by the tests x < 0 and x == 0
 nothing-below : (a b : ℕ) → b ≡ 0 → ltb a b ≡ true → ⊥
 nothing-below a b z h = omega (arith, ltb-true a b h)
 

@@ -1,6 +1,6 @@
 -- The order of floats. Off NaN `le` and `lt` turn into each other; both are transitive. Assumes nothing.
 use mathlib.Core.Path.{_≡_, refl, sym, ap, _∙_, subst, subst⁻¹}
-use mathlib.Core.Bool.{Bool, true, false, not, _&&_, _||_, true≢false, false≢true}
+use mathlib.Core.Bool.{Bool, true, false, not, _&&_, _||_, true≢false}
 use mathlib.Core.Logic.{_⊎_, inl, inr, ⊎-elim}
 use Prim.Native.Nat.{ℕ, _+_, _*_, _<_, _≤_}
 use native.Mathlib.Nat.{eq-zero-or-pos, eq-or-lt-of-le, add-comm, mul-pos, lt-of-lt-of-le, lt-irrefl, zero-mul, le-refl}
@@ -9,7 +9,7 @@ use lib.IntN.{ℤ}
 use lib.Dec.{T, not-T, leb, ltb, eqb, leb→le, le→leb, ltb→lt, lt→ltb, nltb→le, eqb→eq}
 use lib.Ieee.{Float, nan, inf, fin, up, down, below, level, lt, eq, le, isNan}
 use lib.Ieee.Fits.{down-pos, and-i, and-l, and-r, eq→eqb}
-use lib.Ieee.Bits.{is-true, is-false}
+use lib.Ieee.Bits.{is-false}
 use lib.Ieee.Positive.{through}
 
 -- two tests that imply each other are equal
@@ -31,7 +31,7 @@ or-right : (a b : Bool) → T b → T (a || b)
 or-right true b h = tt
 or-right false b h = h
 
--- ---- ±a against ±b, on the sizes
+-- ±a against ±b, on the sizes
 abbrev pub leq : Bool → ℕ → Bool → ℕ → Bool
 leq false a false b = leb a b
 leq false a true b = leb (a + b) 0
@@ -97,7 +97,7 @@ not-lt-sizes true true a b = not-ltb b a
 not-lt-sizes false true a b = not-ltb (b + a) 0 ∙ ap (λ (n : ℕ). leb n 0) (add-comm b a)
 not-lt-sizes true false a b = refl
 
--- ---- off NaN, at most is not above
+-- off NaN, at most is not above
 pub le-turned : (x y : Float) → isNan x ≡ false → isNan y ≡ false → le x y ≡ not (lt y x)
 unfolding isNan le lt eq
 le-turned nan y p q = absurd (true≢false p)
@@ -152,7 +152,7 @@ le-self (inf false) p = tt
 le-self (fin true m e) p = subst⁻¹ T (le-sizes true true (m * up e * down e) (m * up e * down e)) (le→leb _ _ (le-refl (m * up e * down e)))
 le-self (fin false m e) p = subst⁻¹ T (le-sizes false false (m * up e * down e) (m * up e * down e)) (le→leb _ _ (le-refl (m * up e * down e)))
 
--- ---- chains. The fractions are a / p, b / q and c / r
+-- chains. The fractions are a / p, b / q and c / r
 no-factor : (a r : ℕ) → 0 < r → a * r ≤ 0 → a ≡ 0
 no-factor a r R h = ⊎-elim (λ z. z) (λ A. absurd (lt-irrefl 0 (lt-of-lt-of-le (mul-pos A R) h))) (eq-zero-or-pos a)
 

@@ -1,12 +1,12 @@
 -- Floats from 0 to 1: what clamps to them, and which f32 operations stay among them. Assumes nothing.
-use mathlib.Core.Path.{_≡_, refl, sym, ap, _∙_, subst, subst⁻¹}
+use mathlib.Core.Path.{_≡_, refl, subst, subst⁻¹}
 use mathlib.Core.Bool.{Bool, true, false, cond}
 use Prim.Native.Nat.{ℕ, _+_, _-_, _*_, _<_, _≤_}
 use native.Mathlib.Nat.{mul-pos, zero-lt-suc}
 use native.Mathlib.Omega.{arith}
-use borrow.Author.Tests.{ltb-true, ltb-false, le-ltb}
-use lib.IntN.{ℤ, pos}
-use lib.Dec.{T, leb, ltb, lit≤, leb→le, le→leb}
+use borrow.Author.Tests.{ltb-true, ltb-false}
+use lib.IntN.{pos}
+use lib.Dec.{T, ltb, lit≤, leb→le, le→leb}
 use lib.Ieee.{Float, nan, inf, fin, binary32, up, down, round, sum, add, mul, neg, lt, le, eq, isNan, ofInt, ofBits}
 use lib.Ieee.Fits.{down-pos}
 use lib.Ieee.Order.{round-mono}
@@ -17,7 +17,7 @@ use Rattle.math.proofs.Upward.{Up, up-none, sub-up, square-up}
 use Rattle.math.proofs.Sizes.{AtMost, up-to, le-whole, round-neg, round-at-most, at-most-finite, mul-at-most, sub-near, at-most-either}
 use Rattle.math.proofs.Wholes.{Is, whole-is}
 
--- ---- clamp
+-- clamp
 pub clamp-between : (x lo hi : Float) → isNan x ≡ false → T (le lo hi) → T (le lo (clampOf x lo hi)) × T (le (clampOf x lo hi) hi)
 clamp-between x lo hi p h = go (lt x lo) (lt hi x) refl refl
   where
@@ -39,7 +39,7 @@ zero-one = tt
 pub clamped : (x : Float) → isNan x ≡ false → Within (clamp01Of x)
 clamped x p = clamp-between x zeroF oneF p zero-one
 
--- ---- from 0 to 1, as from 0 up and at most 1 in size
+-- from 0 to 1, as from 0 up and at most 1 in size
 one-is : Is oneF 1
 unfolding ofBits
 one-is = (refl, refl)
@@ -61,7 +61,7 @@ pub one-within : Within oneF
 unfolding le lt eq ofBits
 one-within = (tt, tt)
 
--- ---- 1 - y * y, which is what a square root is taken of
+-- 1 - y * y, which is what a square root is taken of
 pub square : (y : Float) → AtMost 1 y → Within (y ⊗ y)
 square y h = at-most-within (y ⊗ y) (square-up binary32 y (at-most-finite 1 y h)) (mul-at-most binary32 1 one-held 1 1 y y (lit≤ tt) h h)
 
@@ -73,7 +73,7 @@ rest z w =
 pub under-root : (y : Float) → AtMost 1 y → Within (oneF ⊖ y ⊗ y)
 under-root y h = rest (y ⊗ y) (square y h)
 
--- ---- the y of the circular curves: t - 1, 2 * t below a half, and -2 * t + 2 from a half on
+-- the y of the circular curves: t - 1, 2 * t below a half, and -2 * t + 2 from a half on
 pub less-one : (t : Float) → Within t → AtMost 1 (t ⊖ oneF)
 less-one t w = sub-near binary32 1 one-held t oneF (w .0) (one-within .0) (within-at-most t w) (within-at-most oneF one-within)
 

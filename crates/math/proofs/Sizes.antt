@@ -36,7 +36,7 @@ at-most-more n k nan l h = h
 at-most-more n k (inf s) l h = h
 at-most-more n k (fin s m e) l h = le-trans h (mul-le-mul-right (down e) l)
 
--- ---- from 0 to n, by comparison
+-- from 0 to n, by comparison
 plain-number : (m : ℕ) (e : ℤ) → isNan (fin false m e) ≡ false
 unfolding isNan
 plain-number m e = refl
@@ -54,7 +54,7 @@ up-to n (inf false) (fin t o d) v h k = absurd k
 up-to n (fin true m e) z v h k = subst⁻¹ (λ (a : ℕ). a ≤ n * down e) (up-none m e h) zero-le
 up-to n (fin false m e) z v h k = leb→le (m * up e) (n * down e) (subst T (le-whole n m e z v) k)
 
--- ---- rounding changes only the sign with the sign
+-- rounding changes only the sign with the sign
 odd-neg : (d q k l : ℕ) → odd d true q k l ≡ neg (odd d false q k l)
 unfolding odd neg
 odd-neg d zero k l = refl
@@ -81,7 +81,7 @@ pub at-most-either : (n : ℕ) (b : Bool) (x y : Float) → AtMost n x → AtMos
 at-most-either n true x y h k = h
 at-most-either n false x y h k = k
 
--- ---- the operations of a format that holds the whole number n
+-- the operations of a format that holds the whole number n
 module _ (f : Format) (n : ℕ) (held : Is (ofInt f (pos n)) n) where
   pub round-at-most : (s : Bool) (a c : ℕ) → 0 < c → a ≤ n * c → AtMost n (round f s a c)
   unfolding ofInt

@@ -1,12 +1,12 @@
 -- Floats from 0 up. A rounded sum ±a ± b is from 0 up where -(±b) is at most ±a, a product where both factors are. Assumes nothing.
-use mathlib.Core.Path.{_≡_, refl, sym, ap, _∙_, subst, subst⁻¹}
-use mathlib.Core.Bool.{Bool, true, false, not, _&&_, cond}
+use mathlib.Core.Path.{_≡_, refl, _∙_, subst, subst⁻¹}
+use mathlib.Core.Bool.{Bool, true, false, not, cond}
 use Prim.Native.Nat.{ℕ, _+_, _-_, _*_, _<_, _≤_}
 use native.Mathlib.Nat.{mul-pos, mul-comm, zero-lt-suc}
 use native.Mathlib.Omega.{arith}
-use borrow.Author.Tests.{le-ltb, lt-ltb}
+use borrow.Author.Tests.{le-ltb}
 use lib.IntN.{ℤ}
-use lib.Dec.{T, leb, ltb, leb→le, le→leb}
+use lib.Dec.{T, ltb, leb→le, le→leb}
 use lib.Ieee.{Float, nan, inf, fin, Format, binary32, binary64, up, down, round, sum, add, sub, mul, neg, lt, le, eq, ofBits}
 use lib.Ieee.Fits.{down-pos}
 use lib.Ieee.Order.{round-mono}
@@ -18,7 +18,7 @@ use Rattle.math.proofs.Order.{leq, le-sizes, lt-le, times-none}
 abbrev pub Up : Float → Type 0
 Up x = T (le zeroF x)
 
--- ---- by the sign: with the sign clear always, with the sign set only a zero
+-- by the sign: with the sign clear always, with the sign set only a zero
 pub up-plain : (m : ℕ) (e : ℤ) → Up (fin false m e)
 unfolding le lt eq ofBits
 up-plain m e = subst⁻¹ T (le-sizes false false (0 * 1 * down e) (m * up e * 1)) (le→leb (0 * 1 * down e) (m * up e * 1) (least (m * up e) (down e)))
@@ -40,7 +40,7 @@ up-none m e h = none (m * up e) (down e) (leb→le (0 * 1 * down e + m * up e * 
     none : (a d : ℕ) → 0 * 1 * d + a * 1 ≤ 0 → a ≡ 0
     none a d h = omega arith
 
--- ---- rounded fractions
+-- rounded fractions
 zero-rounds : (f : Format) → round f false 0 1 ≡ zeroF
 unfolding round ofBits
 zero-rounds binary32 = refl
@@ -63,7 +63,7 @@ round-none f a c h C = subst⁻¹ Up (round-same f true a c 0 1 C (zero-lt-suc 0
     none : (a c : ℕ) → a ≡ 0 → a * 1 ≡ 0 * c
     none a c h = omega arith
 
--- ---- sums
+-- sums
 pub sum-up : (f : Format) (s : Bool) (a : ℕ) (t : Bool) (b c : ℕ) → 0 < c → T (leq (not t) b s a) → Up (sum f s a t b c)
 unfolding sum
 sum-up f false a false b c C h = round-up f (a + b) c C
@@ -120,7 +120,7 @@ sub-up f (fin s m e) (fin t n d) p h =
     (subst⁻¹ (λ (u : Bool). T (leq u (n * up d * down e) s (m * up e * down d))) (not-not t)
     (subst T (le-sizes t s (n * up d * down e) (m * up e * down d)) h))
 
--- ---- products
+-- products
 pub mul-up : (f : Format) (x y : Float) → T (finiteOf x) → T (finiteOf y) → Up x → Up y → Up (mul f x y)
 unfolding mul
 mul-up f nan y p q h k = absurd p
@@ -140,7 +140,7 @@ square-up f (inf s) p = absurd p
 square-up f (fin true m e) p = round-up f (m * up e * (m * up e)) (down e * down e) (mul-pos (down-pos e) (down-pos e))
 square-up f (fin false m e) p = round-up f (m * up e * (m * up e)) (down e * down e) (mul-pos (down-pos e) (down-pos e))
 
--- ---- max with 0
+-- max with 0
 zero-up : Up zeroF
 unfolding le lt eq ofBits
 zero-up = tt

@@ -2,7 +2,7 @@
 use Prim.Native.Nat.{ℕ, _+_, _-_, _*_, _^_, _≤_, _<_}
 use native.Mathlib.Nat.{mul-one, mul-right-comm, mul-pos, mul-le-mul-right, mul-lt-mul-of-pos-right, eq-of-mul-eq-mul-right}
 use native.Mathlib.Omega.{arith}
-use mathlib.Core.Path.{_≡_, refl, sym, ap, _∙_, subst, subst⁻¹}
+use mathlib.Core.Path.{_≡_, refl, sym, ap, _∙_, subst⁻¹}
 use mathlib.Core.Bool.{Bool, true, false, not, _&&_, cond, true≢false}
 use lib.IntN.{ℤ, pos}
 use lib.Dec.{leb, ltb, eqb, lit<}
@@ -28,7 +28,7 @@ is-number nan n v = absurd v
 is-number (inf s) n v = refl
 is-number (fin s m e) n v = refl
 
--- ---- on numbers: x / c is a, and y / c is b
+-- on numbers: x / c is a, and y / c is b
 module _ (x y a b c : ℕ) (h : x ≡ a * c) (k : y ≡ b * c) where
   plus : (x + y) * 1 ≡ (a + b) * c
   plus = omega arith
