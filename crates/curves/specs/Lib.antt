@@ -1,0 +1,5 @@
+pub mod Powers
+pub mod Back
+pub mod Bounce
+pub mod Stairs
+pub mod Slow
