@@ -1,4 +1,5 @@
 pub mod Ceiling
+pub mod Choice
 mod Examples
 mod Fitting
 mod Form

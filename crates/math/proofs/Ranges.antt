@@ -14,8 +14,8 @@ use Rattle.math.specs.Rounded.{_⊕_, _⊖_, _⊗_, zeroF, halfF, oneF, 
 use Rattle.math.specs.Range.{clampOf, clamp01Of}
 use Rattle.math.proofs.Order.{le-sizes, le-of-not-lt, le-numbers, le-self}
 use Rattle.math.proofs.Upward.{Up, up-none, sub-up, square-up}
-use Rattle.math.proofs.Sizes.{AtMost, up-to, le-whole, round-neg, round-at-most, at-most-finite, mul-at-most, sub-near, at-most-either}
-use Rattle.math.proofs.Wholes.{Is, whole-is}
+use Rattle.math.proofs.Sizes.{AtMost, up-to, round-neg, round-at-most, at-most-finite, mul-at-most, sub-near, at-most-either}
+use Rattle.math.proofs.Wholes.{Is, whole-is, fraction-le}
 
 -- clamp
 pub clamp-between : (x lo hi : Float) → isNan x ≡ false → T (le lo hi) → T (le lo (clampOf x lo hi)) × T (le (clampOf x lo hi) hi)
@@ -54,7 +54,7 @@ pub at-most-within : (x : Float) → Up x → AtMost 1 x → Within x
 unfolding le lt eq ofBits
 at-most-within nan u h = absurd h
 at-most-within (inf s) u h = absurd h
-at-most-within (fin false m e) u h = (u, subst⁻¹ T (le-whole 1 m e oneF one-is) (le→leb (m * up e) (1 * down e) h))
+at-most-within (fin false m e) u h = (u, subst⁻¹ T (fraction-le oneF 1 m e one-is) (le→leb (m * up e) (1 * down e) h))
 at-most-within (fin true m e) u h = (u, subst⁻¹ T (le-sizes true false (m * up e * 1) (1 * 1 * down e)) tt)
 
 pub one-within : Within oneF

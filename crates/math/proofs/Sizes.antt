@@ -2,17 +2,22 @@
 use mathlib.Core.Path.{_≡_, refl, sym, ap, _∙_, subst, subst⁻¹}
 use mathlib.Core.Bool.{Bool, true, false, not, _&&_, Bool·beq, cond}
 use Prim.Native.Nat.{ℕ, zero, suc, _+_, _-_, _*_, _^_, _<_, _≤_, zero-le}
-use native.Mathlib.Nat.{mul-pos, mul-one, mul-le-mul, mul-le-mul-right, mul-mul-mul-comm, le-of-eq, le-trans, zero-lt-suc}
+use native.Mathlib.Nat.{mul-pos, mul-one, one-mul, mul-le-mul, mul-le-mul-right, mul-mul-mul-comm, mul-comm, mul-zero, zero-mul, eq-zero-or-pos, le-of-eq, le-trans, lt-of-lt-of-le, lt-irrefl, zero-lt-suc}
 use native.Mathlib.Omega.{arith}
+use mathlib.Core.Logic.{⊎-elim}
 use lib.IntN.{ℤ, pos}
-use lib.Dec.{T, leb, ltb, leb→le}
-use lib.Ieee.{Float, nan, inf, fin, Format, unlike, prec, emax, low, up, down, odd, units, round, sum, add, sub, mul, neg, lt, le, eq, isNan, ofInt, ofBits}
-use lib.Ieee.Fits.{down-pos, round-is}
+use lib.Dec.{T, leb, ltb, lit≤, leb→le}
+use lib.Ieee.{Float, nan, inf, fin, Format, unlike, prec, emax, low, up, down, odd, units, round, sum, add, sub, mul, div, neg, lt, le, eq, isNan, ofInt, ofBits}
+use borrow.Author.Tests.{ne-eqb, le-ltb}
+use lib.Ieee.Fits.{up-pos, down-pos, round-is}
+use lib.Ieee.Back.{round-whole}
+use lib.Pow.{pow-mono}
 use lib.Ieee.Order.{drop, kept, round-mono}
+use Rattle.math.specs.Rounded.{zeroF, oneF}
 use Rattle.math.specs.Range.{finiteOf}
-use Rattle.math.proofs.Order.{le-turned, not-ltb, times-none}
+use Rattle.math.proofs.Order.{le-sizes, le-chain, times-none}
 use Rattle.math.proofs.Upward.{Up, up-none, none-of, round-up}
-use Rattle.math.proofs.Wholes.{Is, is-number, lt-fraction}
+use Rattle.math.proofs.Wholes.{Is, le-is, fraction-le, le-fraction}
 
 -- finite, and at most n in size
 abbrev pub AtMost : ℕ → Float → Type 0
@@ -31,19 +36,18 @@ at-most-number n nan h = absurd h
 at-most-number n (inf s) h = absurd h
 at-most-number n (fin s m e) h = refl
 
+-- finite, and at least 1 / k in size
+abbrev pub AtLeast : ℕ → Float → Type 0
+AtLeast k nan = ⊥
+AtLeast k (inf s) = ⊥
+AtLeast k (fin s m e) = down e ≤ k * (m * up e)
+
 pub at-most-more : (n k : ℕ) (x : Float) → n ≤ k → AtMost n x → AtMost k x
 at-most-more n k nan l h = h
 at-most-more n k (inf s) l h = h
 at-most-more n k (fin s m e) l h = le-trans h (mul-le-mul-right (down e) l)
 
 -- from 0 to n, by comparison
-plain-number : (m : ℕ) (e : ℤ) → isNan (fin false m e) ≡ false
-unfolding isNan
-plain-number m e = refl
-
-pub le-whole : (n m : ℕ) (e : ℤ) (z : Float) → Is z n → le (fin false m e) z ≡ leb (m * up e) (n * down e)
-le-whole n m e z v = le-turned (fin false m e) z (plain-number m e) (is-number z n v) ∙ ap not (lt-fraction z n m e v) ∙ not-ltb (m * up e) (n * down e)
-
 pub up-to : (n : ℕ) (x z : Float) → Is z n → Up x → T (le x z) → AtMost n x
 unfolding le lt eq ofBits
 up-to n nan z v h k = absurd h
@@ -52,7 +56,22 @@ up-to n (inf false) nan v h k = absurd v
 up-to n (inf false) (inf t) v h k = absurd v
 up-to n (inf false) (fin t o d) v h k = absurd k
 up-to n (fin true m e) z v h k = subst⁻¹ (λ (a : ℕ). a ≤ n * down e) (up-none m e h) zero-le
-up-to n (fin false m e) z v h k = leb→le (m * up e) (n * down e) (subst T (le-whole n m e z v) k)
+up-to n (fin false m e) z v h k = leb→le (m * up e) (n * down e) (subst T (fraction-le z n m e v) k)
+
+-- not below a u that is 1
+zero-is : Is zeroF 0
+unfolding ofBits
+zero-is = (refl, refl)
+
+minus-low : (m : ℕ) (e : ℤ) → T (le (fin true m e) zeroF)
+unfolding le lt eq ofBits
+minus-low m e = subst⁻¹ T (le-sizes true false (m * up e * 1) (0 * 1 * down e)) tt
+
+pub from-one : (u x : Float) (n : ℕ) → Is u 1 → AtMost n x → T (le u x) → AtLeast 1 x
+from-one u nan n v h k = absurd h
+from-one u (inf s) n v h k = absurd h
+from-one u (fin false m e) n v h k = le-trans (le-of-eq (sym (one-mul (down e)))) (le-trans (leb→le (1 * down e) (m * up e) (subst T (le-fraction u 1 m e v) k)) (le-of-eq (sym (one-mul (m * up e)))))
+from-one u (fin true m e) n v h k = absurd (subst T (le-is u zeroF 1 0 v zero-is) (le-chain u (fin true m e) zeroF k (minus-low m e)))
 
 -- rounding changes only the sign with the sign
 odd-neg : (d q k l : ℕ) → odd d true q k l ≡ neg (odd d false q k l)
@@ -130,6 +149,23 @@ module _ (f : Format) (n : ℕ) (held : Is (ofInt f (pos n)) n) where
       round-at-most (unlike s t) (m * up e * (o * up d)) (down e * down d) (mul-pos (down-pos e) (down-pos d))
       (le-trans (mul-le-mul h k) (le-trans (le-of-eq (mul-mul-mul-comm p (down e) q (down d))) (mul-le-mul-right (down e * down d) l)))
 
+  pub div-at-most : (p k : ℕ) (x y : Float) → p * k ≤ n → AtMost p x → AtLeast k y → AtMost n (div f x y)
+  unfolding div
+  div-at-most p k nan y l h b = absurd h
+  div-at-most p k (inf s) y l h b = absurd h
+  div-at-most p k (fin s m e) nan l h b = absurd b
+  div-at-most p k (fin s m e) (inf t) l h b = absurd b
+  div-at-most p k (fin s m e) (fin t o d) l h b =
+      rw (ne-eqb o 0 (λ z. none z))
+      (round-at-most (unlike s t) (m * up e * down d) (o * up d * down e) (mul-pos some (down-pos e))
+      (le-trans (mul-le-mul h b) (le-trans (le-of-eq (mul-mul-mul-comm p (down e) k (o * up d) ∙ ap (λ (i : ℕ). p * k * i) (mul-comm (down e) (o * up d)))) (mul-le-mul-right (o * up d * down e) l))))
+    where
+      none : o ≡ 0 → ⊥
+      none z = lt-irrefl 0 (lt-of-lt-of-le (down-pos d) (le-trans b (le-of-eq (ap (λ (i : ℕ). k * (i * up d)) z ∙ ap (λ (i : ℕ). k * i) (zero-mul (up d)) ∙ mul-zero k))))
+
+      some : 0 < o * up d
+      some = mul-pos (⊎-elim (λ z. absurd (none z)) (λ q. q) (eq-zero-or-pos o)) (up-pos d)
+
   -- the difference of two floats from 0 up
   up-near : (s t : Bool) (a b c : ℕ) → (s ≡ true → a ≡ 0) → (t ≡ true → b ≡ 0) → 0 < c → a ≤ n * c → b ≤ n * c → AtMost n (sum f s a (not t) b c)
   up-near true true a b c p q C h k = sum-near true a b c C h k
@@ -146,3 +182,20 @@ module _ (f : Format) (n : ℕ) (held : Is (ofInt f (pos n)) n) where
   sub-near (fin s m e) (fin t o d) u v h k =
       up-near s t (m * up e * down d) (o * up d * down e) (down e * down d) (λ p. times-none (m * up e) (down d) (none-of s m e u p)) (λ p. times-none (o * up d) (down e) (none-of t o d v p))
       (mul-pos (down-pos e) (down-pos d)) (omega (arith, mul-le-mul-right (down d) h)) (omega (arith, mul-le-mul-right (down e) k))
+
+-- 1 and a float from 0 up
+pub one-more : (f : Format) (n : ℕ) (y : Float) → Up y → AtMost n (add f oneF y) → AtMost n y → AtLeast 1 (add f oneF y)
+unfolding add sum ofBits
+one-more f n nan u h k = absurd k
+one-more f n (inf t) u h k = absurd k
+one-more f n (fin t o d) u h k = from-one (round f false 1 1) (sum f false (1 * 1 * down d) t (o * up d * 1) (1 * down d)) n (one-is f) h (go t (none-of t o d u))
+  where
+    one-is : (f : Format) → Is (round f false 1 1) 1
+    one-is f = round-whole f false 1 (le-trans (lit≤ tt) (pow-mono {i = 0} {j = prec f} zero-le))
+
+    go : (t : Bool) → (t ≡ true → o * up d ≡ 0) → T (le (round f false 1 1) (sum f false (1 * 1 * down d) t (o * up d * 1) (1 * down d)))
+    go false p = round-mono f 1 1 (1 * 1 * down d + o * up d * 1) (1 * down d) (zero-lt-suc 0) (mul-pos (zero-lt-suc 0) (down-pos d)) (omega arith)
+    go true p =
+        let z : o * up d ≡ 0 = p refl in
+        rw (le-ltb (1 * 1 * down d) (o * up d * 1) (omega arith))
+        (round-mono f 1 1 (1 * 1 * down d - o * up d * 1) (1 * down d) (zero-lt-suc 0) (mul-pos (zero-lt-suc 0) (down-pos d)) (omega arith))

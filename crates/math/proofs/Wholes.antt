@@ -137,10 +137,36 @@ pub le-is : (x y : Float) (a b : ℕ) → Is x a → Is y b → le x y ≡ leb a
 le-is x y a b v w = le-turned x y (is-number x a v) (is-number y b w) ∙ ap not (lt-is y x b a w v) ∙ not-ltb a b
 
 -- the whole number a against the fraction m * up e / down e
-pub lt-fraction : (x : Float) (a m : ℕ) (e : ℤ) → Is x a → lt x (fin false m e) ≡ ltb (a * down e) (m * up e)
-unfolding lt
-lt-fraction nan a m e v = absurd v
-lt-fraction (inf s) a m e v = absurd v
-lt-fraction (fin true n d) a m e v = absurd (true≢false (v .0))
-lt-fraction (fin false n d) a m e v =
-    ltb-scaled (n * up d * down e) (m * up e * down d) (a * down e) (m * up e) (down d) (ap (λ (z : ℕ). z * down e) (sym (mul-one (n * up d)) ∙ v .1) ∙ mul-right-comm a (down d) (down e)) refl (down-pos d)
+module _ (x : Float) (a m : ℕ) (e : ℤ) (v : Is x a) where
+  size-is : (n : ℕ) (d : ℤ) → n * up d * 1 ≡ a * down d → n * up d * down e ≡ a * down e * down d
+  size-is n d h = ap (λ (z : ℕ). z * down e) (sym (mul-one (n * up d)) ∙ h) ∙ mul-right-comm a (down d) (down e)
+
+  pub lt-fraction : lt x (fin false m e) ≡ ltb (a * down e) (m * up e)
+  unfolding lt
+  lt-fraction = go x v
+    where
+      go : (x : Float) → Is x a → lt x (fin false m e) ≡ ltb (a * down e) (m * up e)
+      go nan v = absurd v
+      go (inf s) v = absurd v
+      go (fin true n d) v = absurd (true≢false (v .0))
+      go (fin false n d) v = ltb-scaled (n * up d * down e) (m * up e * down d) (a * down e) (m * up e) (down d) (size-is n d (v .1)) refl (down-pos d)
+
+  pub fraction-lt : lt (fin false m e) x ≡ ltb (m * up e) (a * down e)
+  unfolding lt
+  fraction-lt = go x v
+    where
+      go : (x : Float) → Is x a → lt (fin false m e) x ≡ ltb (m * up e) (a * down e)
+      go nan v = absurd v
+      go (inf s) v = absurd v
+      go (fin true n d) v = absurd (true≢false (v .0))
+      go (fin false n d) v = ltb-scaled (m * up e * down d) (n * up d * down e) (m * up e) (a * down e) (down d) refl (size-is n d (v .1)) (down-pos d)
+
+  plain-number : isNan (fin false m e) ≡ false
+  unfolding isNan
+  plain-number = refl
+
+  pub le-fraction : le x (fin false m e) ≡ leb (a * down e) (m * up e)
+  le-fraction = le-turned x (fin false m e) (is-number x a v) plain-number ∙ ap not fraction-lt ∙ not-ltb (a * down e) (m * up e)
+
+  pub fraction-le : le (fin false m e) x ≡ leb (m * up e) (a * down e)
+  fraction-le = le-turned (fin false m e) x plain-number (is-number x a v) ∙ ap not lt-fraction ∙ not-ltb (m * up e) (a * down e)
