@@ -1,24 +1,27 @@
 -- How large the curves are at a progress from 0 to 1: each is finite, and at most 134,217,728 in size. Assumes nothing.
-use mathlib.Core.Path.{_≡_, refl, subst}
+use mathlib.Core.Path.{_≡_, refl}
 use mathlib.Core.Bool.{true, false, false≢true}
 use Prim.Native.Nat.{ℕ, _+_, _*_, _<_, _≤_, max, zero-le}
-use native.Mathlib.Nat.{le-of-eq, mul-one, le-trans}
+use native.Mathlib.Nat.{le-of-eq, mul-one}
 use native.Mathlib.Omega.{arith}
 use borrow.Author.Tests.{ltb-true}
 use lib.IntN.{pos}
-use lib.Dec.{T, lit≤}
-use lib.Ieee.{Float, nan, inf, fin, binary32, up, down, lt, le, neg, isNan, ofInt, round, ofBits}
+use lib.Dec.{lit≤}
+use lib.Ieee.{Float, nan, inf, fin, binary32, up, down, lt, le, eq, neg, isNan, ofInt, ofBits}
 use Rattle.math.specs.Rounded.{_⊕_, _⊖_, _⊗_, _⊘_, f32, zeroF, halfF, oneF, twoF}
 use Rattle.math.specs.Range.{clamp01Of, maxZeroOf}
+use Rattle.math.specs.Whole.{ceilOf}
+use Rattle.math.proofs.Ceiling.{ceil-at-most}
 use Rattle.math.proofs.Choice.{by-test}
 use Rattle.math.proofs.Wholes.{Is, whole-is}
 use Rattle.math.proofs.Upward.{Up, mul-up, max-zero-up}
-use Rattle.math.proofs.Sizes.{AtMost, AtLeast, at-most-more, at-most-finite, at-most-neg, add-at-most, sub-at-most, mul-at-most, div-at-most, one-more}
-use Rattle.math.proofs.Ranges.{Within, one-held, within-at-most, rest, less-one, turned, clamped}
+use Rattle.math.proofs.Sizes.{AtMost, AtLeast, is-at-most, is-at-least, at-most-number, at-most-more, at-most-finite, add-at-most, sub-at-most, mul-at-most, div-at-most, one-more}
+use Rattle.math.proofs.Ranges.{Within, within-at-most, rest, less-one, turned, clamped}
 use Rattle.curves.specs.Powers.{Power, quad, cubic, quart, quint, powi, timesT, leadOf, inPower, outPower, inOutPower}
 use Rattle.curves.specs.Back.{backC1, backC2, backC3, inBack, outBack, inOutBack}
 use Rattle.curves.specs.Bounce.{bounceN1, bounceD1, arcOf, outBounce, inBounce, inOutBounce, customBounce}
 use Rattle.curves.specs.Slow.{epsilon, slowPart, edgeOf, midOf, fromOf, slowAt, slowMo}
+use Rattle.curves.specs.Stairs.{stepsOf}
 
 -- sums, differences, products and quotients of f32, where the bound is a whole number up to 2 ^ 24
 module _ (n : ℕ) (small : n ≤ 16777216) (p q : ℕ) (x y : Float) where
@@ -283,3 +286,17 @@ slow-mo-most t ratio power w p h =
     by-test (AtMost 134217728) (le t zeroF) _ _ (λ _. zero-most 134217728)
     (λ _. by-test (AtMost 134217728) (le oneF t) _ _ (λ _. at-most-more 1 134217728 oneF (lit≤ tt) one-most)
     (λ _. slow-at-most (clamp01Of ratio) (maxZeroOf power) (clamped ratio p) (max-zero-up power) (by-test (AtMost 1024) (lt zeroF power) power zeroF (λ _. h) (λ _. zero-most 1024)) t w))
+
+-- Steps, from 0 to 1
+zero-within : Within zeroF
+unfolding le lt eq ofBits
+zero-within = (tt, tt)
+
+pub steps-within : (t : Float) (n : ℕ) → Within t → n ≤ 65536 → Within (stepsOf t n)
+steps-within t n w l =
+    let c = ofInt binary32 (pos (max n 1)) in
+    let m : max n 1 ≤ 65536 = omega arith in
+    let v : Is c (max n 1) = whole-is binary32 (max n 1) (omega arith) in
+    let y : AtMost 65536 (t ⊗ c) = times 65536 (lit≤ tt) 1 65536 t c (lit≤ tt) (within-at-most t w) (is-at-most c (max n 1) 65536 v m) in
+    let q : AtMost 65536 (ceilOf (t ⊗ c) ⊘ c) = over 65536 (lit≤ tt) 65536 1 (ceilOf (t ⊗ c)) c (lit≤ tt) (ceil-at-most 65536 (t ⊗ c) (lit≤ tt) y) (is-at-least c (max n 1) v (omega arith)) in
+    by-test Within (eq t zeroF) _ _ (λ _. zero-within) (λ _. clamped (ceilOf (t ⊗ c) ⊘ c) (at-most-number 65536 (ceilOf (t ⊗ c) ⊘ c) q))

@@ -1,2 +1,3 @@
 pub mod Bounds
-mod Constants
+pub mod Constants
+pub mod JumpEnd

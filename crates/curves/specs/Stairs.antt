@@ -1,15 +1,37 @@
--- Document 01, "Easing": "Steps: 0 at t = 0; else ceil(t·n)/n, n at least 1, clamped".
-use mathlib.Core.Bool.{cond}
-use Prim.Native.Nat.{ℕ, max}
+-- Document 01, "Easing": "Steps: 0 at t = 0; else ceil(t·n)/n, n at least 1, clamped. W3C's jump-end takes floor."
+use mathlib.Core.Bool.{Bool, true, false, cond}
+use Prim.Native.Nat.{ℕ, _+_, _-_, _*_, _/_, _%_, max}
 use lib.IntN.{pos}
-use lib.Ieee.{Float, binary32, eq, ofInt}
+use lib.Dec.{eqb}
+use lib.Ieee.{Float, nan, inf, fin, binary32, up, down, neg, eq, ofInt}
 use Rattle.math.specs.Rounded.{_⊗_, _⊘_, zeroF}
 use Rattle.math.specs.Range.{clamp01Of}
 use Rattle.math.specs.Whole.{ceilOf}
 
--- for the number n of steps, as a float
+-- the number of steps as a float, at least 1
+abbrev pub countOf : ℕ → Float
+countOf n = ofInt binary32 (pos (max n 1))
+
+-- for c steps
 abbrev pub stairsOf : Float → Float → Float
-stairsOf t n = clamp01Of (ceilOf (t ⊗ n) ⊘ n)
+stairsOf t c = clamp01Of (ceilOf (t ⊗ c) ⊘ c)
 
 abbrev pub stepsOf : Float → ℕ → Float
-stepsOf t n = cond (eq t zeroF) zeroF (stairsOf t (ofInt binary32 (pos (max n 1))))
+stepsOf t n = cond (eq t zeroF) zeroF (stairsOf t (countOf n))
+
+-- the largest whole number that is not above x, for W3C's jump-end. `fin s m e` has the size m * up e / down e
+abbrev pub floorOf : Float → Float
+floorOf nan = nan
+floorOf (inf s) = inf s
+floorOf (fin false m e) = ofInt binary32 (pos (m * up e / down e))
+floorOf (fin true m e) = neg (ofInt binary32 (pos ((m * up e + (down e - 1)) / down e)))
+
+-- W3C's steps(n, jump-end), of the rounded product
+abbrev pub jumpEndOf : Float → ℕ → Float
+jumpEndOf t n = floorOf (t ⊗ countOf n) ⊘ countOf n
+
+-- whether x is a whole number
+abbrev pub isWhole : Float → Bool
+isWhole nan = false
+isWhole (inf s) = false
+isWhole (fin s m e) = eqb (m * up e % down e) 0

@@ -3,7 +3,7 @@ use mathlib.Core.Path.{_≡_, refl, sym, ap, _∙_, subst, subst⁻¹}
 use mathlib.Core.Logic.{_⊎_, inl, inr, ⊎-elim}
 use mathlib.Core.Bool.{Bool, true, false, _&&_, false≢true}
 use Prim.Native.Nat.{ℕ, suc, _+_, _-_, _*_, _/_, _%_, _^_, _<_, _≤_, min}
-use native.Mathlib.Nat.{suc-mul, le-div-iff-mul-le, div-add-mod', mod-lt, one-mul, add-mul, add-zero, le-of-lt, div-one}
+use native.Mathlib.Nat.{suc-mul, le-div-iff-mul-le, div-add-mod', mod-lt, one-mul, add-mul, add-zero, le-of-lt, le-trans, le-of-suc-le-suc, div-lt-iff-lt-mul, div-one}
 use native.Mathlib.Omega.{arith}
 use borrow.Author.Tests.{ltb-true, ltb-false}
 use lib.IntN.{ℤ, pos}
@@ -17,10 +17,11 @@ use Rattle.math.specs.Rounded.{zeroF, f32}
 use Rattle.math.specs.Whole.{ceilOf, wholePartOf}
 use Rattle.math.proofs.Fitting.{no-size, held, no-fraction}
 use Rattle.math.proofs.WholePart.{part-below}
-use Rattle.math.proofs.Wholes.{lt-fraction}
+use Rattle.math.proofs.Wholes.{whole-is, lt-fraction}
+use Rattle.math.proofs.Sizes.{AtMost, at-most-neg, is-at-most}
 
 -- the least whole number not below a / d, by whether the whole part is below it
-up-more : (a d : ℕ) → 0 < d → a / d * d < a → (a + (d - 1)) / d ≡ a / d + 1
+pub up-more : (a d : ℕ) → 0 < d → a / d * d < a → (a + (d - 1)) / d ≡ a / d + 1
 up-more a d D h =
     let s : a / d * d + a % d ≡ a = div-add-mod' a d in
     let l : a % d < d = mod-lt a D in
@@ -32,7 +33,7 @@ up-more a d D h =
     less : (r d : ℕ) → r < d → 0 < d → r - 1 < d
     less r d h D = omega arith
 
-up-same : (a d : ℕ) → 0 < d → a ≤ a / d * d → (a + (d - 1)) / d ≡ a / d
+pub up-same : (a d : ℕ) → 0 < d → a ≤ a / d * d → (a + (d - 1)) / d ≡ a / d
 up-same a d D h =
     let s : a / d * d + a % d ≡ a = div-add-mod' a d in
     ap (λ (x : ℕ). x / d) (split a (a / d * d) (a % d) d s h) ∙ digits-div (a / d) (less d D)
@@ -143,3 +144,20 @@ ceiling-least a d D = (
 
     short : (w z : ℕ) → z ≡ w + d → z ≤ a + (d - 1) → w < a
     short w z e l = omega arith
+
+-- the ceiling of a float up to a whole number is up to it
+whole-most : (w n : ℕ) → w ≤ n → n ≤ 16777216 → AtMost n (ofInt binary32 (pos w))
+whole-most w n h l = is-at-most (ofInt binary32 (pos w)) w n (whole-is binary32 w (le-trans h l)) h
+
+pub ceil-at-most : (n : ℕ) (x : Float) → n ≤ 16777216 → AtMost n x → AtMost n (ceilOf x)
+ceil-at-most n nan l h = h
+ceil-at-most n (inf s) l h = h
+ceil-at-most n (fin false m e) l h = whole-most ((m * up e + (down e - 1)) / down e) n (le-of-suc-le-suc (div-lt-iff-lt-mul (down-pos e) .1 (room (m * up e) (down e) (n * down e) (suc n * down e) (down-pos e) h (suc-mul n (down e))))) l
+  where
+    room : (a d b c : ℕ) → 0 < d → a ≤ b → c ≡ b + d → a + (d - 1) < c
+    room a d b c D h e = omega arith
+ceil-at-most n (fin true m e) l h =
+    at-most-neg n (ofInt binary32 (pos (m * up e / down e))) (whole-most (m * up e / down e) n (le-of-suc-le-suc (div-lt-iff-lt-mul (down-pos e) .1 (room (m * up e) (down e) (n * down e) (suc n * down e) (down-pos e) h (suc-mul n (down e))))) l)
+  where
+    room : (a d b c : ℕ) → 0 < d → a ≤ b → c ≡ b + d → a < c
+    room a d b c D h e = omega arith

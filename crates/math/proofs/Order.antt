@@ -5,6 +5,7 @@ use mathlib.Core.Logic.{_⊎_, inl, inr, ⊎-elim}
 use Prim.Native.Nat.{ℕ, _+_, _*_, _<_, _≤_}
 use native.Mathlib.Nat.{eq-zero-or-pos, eq-or-lt-of-le, add-comm, mul-pos, lt-of-lt-of-le, lt-irrefl, zero-mul, le-refl}
 use native.Mathlib.Omega.{arith}
+use borrow.Author.Tests.{eq-eqb}
 use lib.IntN.{ℤ}
 use lib.Dec.{T, not-T, leb, ltb, eqb, leb→le, le→leb, ltb→lt, lt→ltb, nltb→le, eqb→eq}
 use lib.Ieee.{Float, nan, inf, fin, up, down, below, level, lt, eq, le, isNan}
@@ -151,6 +152,22 @@ le-self (inf true) p = tt
 le-self (inf false) p = tt
 le-self (fin true m e) p = subst⁻¹ T (le-sizes true true (m * up e * down e) (m * up e * down e)) (le→leb _ _ (le-refl (m * up e * down e)))
 le-self (fin false m e) p = subst⁻¹ T (le-sizes false false (m * up e * down e) (m * up e * down e)) (le→leb _ _ (le-refl (m * up e * down e)))
+
+pub eq-self : (x : Float) → isNan x ≡ false → eq x x ≡ true
+unfolding isNan eq
+eq-self nan p = absurd (true≢false p)
+eq-self (inf true) p = refl
+eq-self (inf false) p = refl
+eq-self (fin true m e) p = simp (eq-eqb (m * up e * down e) (m * up e * down e) refl)
+eq-self (fin false m e) p = simp (eq-eqb (m * up e * down e) (m * up e * down e) refl)
+
+pub lt-not-eq : (x y : Float) → T (lt x y) → eq y x ≡ false
+unfolding le
+lt-not-eq x y h = go (eq y x) refl
+  where
+    go : (b : Bool) → eq y x ≡ b → b ≡ false
+    go false e = refl
+    go true e = absurd (subst T (not-lt-of-le y x (or-right (lt y x) (eq y x) (subst⁻¹ T e tt))) h)
 
 -- chains. The fractions are a / p, b / q and c / r
 no-factor : (a r : ℕ) → 0 < r → a * r ≤ 0 → a ≡ 0

@@ -12,7 +12,7 @@ use lib.Ieee.Fits.{down-pos}
 use lib.Ieee.Order.{round-mono}
 use Rattle.math.specs.Rounded.{_⊕_, _⊖_, _⊗_, zeroF, halfF, oneF, twoF}
 use Rattle.math.specs.Range.{clampOf, clamp01Of}
-use Rattle.math.proofs.Order.{le-sizes, le-of-not-lt, le-numbers, le-self}
+use Rattle.math.proofs.Order.{le-sizes, not-lt-of-le, le-of-not-lt, le-numbers, le-self}
 use Rattle.math.proofs.Upward.{Up, up-none, sub-up, square-up}
 use Rattle.math.proofs.Sizes.{AtMost, up-to, round-neg, round-at-most, at-most-finite, mul-at-most, sub-near, at-most-either}
 use Rattle.math.proofs.Wholes.{Is, whole-is, fraction-le}
@@ -38,6 +38,9 @@ zero-one = tt
 
 pub clamped : (x : Float) → isNan x ≡ false → Within (clamp01Of x)
 clamped x p = clamp-between x zeroF oneF p zero-one
+
+pub clamp-stays : (x : Float) → Within x → clamp01Of x ≡ x
+clamp-stays x w = simp (not-lt-of-le zeroF x (w .0), not-lt-of-le x oneF (w .1))
 
 -- from 0 to 1, as from 0 up and at most 1 in size
 one-is : Is oneF 1

@@ -6,7 +6,7 @@ use native.Mathlib.Nat.{mul-pos, mul-one, one-mul, mul-le-mul, mul-le-mul-right,
 use native.Mathlib.Omega.{arith}
 use mathlib.Core.Logic.{⊎-elim}
 use lib.IntN.{ℤ, pos}
-use lib.Dec.{T, leb, ltb, lit≤, leb→le}
+use lib.Dec.{T, ltb, lit≤, leb→le}
 use lib.Ieee.{Float, nan, inf, fin, Format, unlike, prec, emax, low, up, down, odd, units, round, sum, add, sub, mul, div, neg, lt, le, eq, isNan, ofInt, ofBits}
 use borrow.Author.Tests.{ne-eqb, le-ltb}
 use lib.Ieee.Fits.{up-pos, down-pos, round-is}
@@ -72,6 +72,18 @@ from-one u nan n v h k = absurd h
 from-one u (inf s) n v h k = absurd h
 from-one u (fin false m e) n v h k = le-trans (le-of-eq (sym (one-mul (down e)))) (le-trans (leb→le (1 * down e) (m * up e) (subst T (le-fraction u 1 m e v) k)) (le-of-eq (sym (one-mul (m * up e)))))
 from-one u (fin true m e) n v h k = absurd (subst T (le-is u zeroF 1 0 v zero-is) (le-chain u (fin true m e) zeroF k (minus-low m e)))
+
+-- a whole number
+pub is-at-most : (x : Float) (n k : ℕ) → Is x n → n ≤ k → AtMost k x
+is-at-most nan n k v l = absurd v
+is-at-most (inf s) n k v l = absurd v
+is-at-most (fin s m e) n k v l = le-trans (le-of-eq (sym (mul-one (m * up e)) ∙ v .1)) (mul-le-mul-right (down e) l)
+
+pub is-at-least : (x : Float) (n : ℕ) → Is x n → 1 ≤ n → AtLeast 1 x
+is-at-least nan n v l = absurd v
+is-at-least (inf s) n v l = absurd v
+is-at-least (fin s m e) n v l =
+    le-trans (le-of-eq (sym (one-mul (down e)))) (le-trans (mul-le-mul-right (down e) l) (le-of-eq (sym (v .1) ∙ mul-one (m * up e) ∙ sym (one-mul (m * up e)))))
 
 -- rounding changes only the sign with the sign
 odd-neg : (d q k l : ℕ) → odd d true q k l ≡ neg (odd d false q k l)

@@ -1,13 +1,13 @@
 -- Whole numbers as floats of a format. Up to 2 ^ prec each is a value of the format, and sums, differences, products and comparisons are the numbers' own. Assumes nothing.
 use Prim.Native.Nat.{ℕ, _+_, _-_, _*_, _^_, _≤_, _<_}
-use native.Mathlib.Nat.{mul-one, mul-right-comm, mul-pos, mul-le-mul-right, mul-lt-mul-of-pos-right, eq-of-mul-eq-mul-right}
+use native.Mathlib.Nat.{lt-irrefl, zero-mul, mul-assoc, mul-comm, mul-left-comm, mul-one, mul-right-comm, mul-pos, mul-le-mul-right, mul-lt-mul-of-pos-right, eq-of-mul-eq-mul-right}
 use native.Mathlib.Omega.{arith}
-use mathlib.Core.Path.{_≡_, refl, sym, ap, _∙_, subst⁻¹}
+use mathlib.Core.Path.{_≡_, refl, sym, ap, _∙_, subst, subst⁻¹}
 use mathlib.Core.Bool.{Bool, true, false, not, _&&_, cond, true≢false}
 use lib.IntN.{ℤ, pos}
 use lib.Dec.{leb, ltb, eqb, lit<}
 use borrow.Author.Tests.{lt-ltb, le-ltb, eq-eqb, ne-eqb, ltb-true, ltb-false, eqb-true, eqb-false}
-use lib.Ieee.{Float, nan, inf, fin, Format, prec, up, down, round, sum, add, sub, mul, neg, lt, le, eq, isNan, ofInt}
+use lib.Ieee.{Float, nan, inf, fin, Format, prec, up, down, round, sum, add, sub, mul, div, neg, lt, le, eq, isNan, ofInt}
 use lib.Ieee.Exact.{HasValue}
 use lib.Ieee.Scale.{round-same}
 use lib.Ieee.Back.{round-whole}
@@ -61,6 +61,12 @@ cross-right q b E D h = omega (arith, ap (λ (z : ℕ). z * E) h)
 times : (p q a b E D : ℕ) → p ≡ a * E → q ≡ b * D → p * q * 1 ≡ a * b * (E * D)
 times p q a b E D h k = omega (arith, ap (λ (z : ℕ). z * q) h, ap (λ (z : ℕ). a * E * z) k)
 
+over : (p q a b E D : ℕ) → p ≡ a * E → q ≡ b * D → p * D * b ≡ a * (q * E)
+over p q a b E D h k = ap (λ (z : ℕ). z * D * b) h ∙ turned a E D b ∙ ap (λ (z : ℕ). a * (z * E)) (sym k)
+  where
+    turned : (a E D b : ℕ) → a * E * D * b ≡ a * (b * D * E)
+    turned a E D b = simp (mul-assoc, mul-comm, mul-left-comm)
+
 and-true : (t : Bool) → t && true ≡ t
 and-true true = refl
 and-true false = refl
@@ -105,6 +111,18 @@ module _ (f : Format) (x y : Float) (a b : ℕ) (v : Is x a) (w : Is y b) where
       by-form a b (λ x y. mul f x y ≡ ofInt f (pos (a * b)))
       (λ m e n d p q. round-same f false (m * up e * (n * up d)) (down e * down d) (a * b) 1 (mul-pos (down-pos e) (down-pos d)) (lit< tt)
       (times (m * up e) (n * up d) a b (down e) (down d) p q))
+      x y v w
+
+  -- a quotient is the rounded fraction
+  pub div-is : 0 < b → div f x y ≡ round f false a b
+  unfolding div
+  div-is B =
+      by-form a b (λ x y. div f x y ≡ round f false a b)
+      (λ m e n d p q.
+      let Q : 0 < n * up d = subst⁻¹ (λ (z : ℕ). 0 < z) q (mul-pos B (down-pos d)) in
+      let k : eqb n 0 ≡ false = ne-eqb n 0 (λ z. lt-irrefl 0 (subst (λ (z : ℕ). 0 < z) (ap (λ (i : ℕ). i * up d) z ∙ zero-mul (up d)) Q)) in
+      ap (λ (t : Bool). cond t (cond (eqb m 0) nan (inf false)) (round f false (m * up e * down d) (n * up d * down e))) k
+      ∙ round-same f false (m * up e * down d) (n * up d * down e) a b (mul-pos Q (down-pos e)) B (over (m * up e) (n * up d) a b (down e) (down d) p q))
       x y v w
 
   -- exact where the format holds the result
