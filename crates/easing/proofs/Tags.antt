@@ -1,0 +1,100 @@
+-- What the tag of a match on an easing says: it is the number of the kind; the twelve have no curve; all kinds but four have no parameters. Assumes nothing.
+use Prim.Native.Nat.{ℕ}
+use mathlib.Core.Path.{_≡_, refl, sym, subst, _∙_}
+use mathlib.Core.Bool.{Bool, true, false, not, _&&_, _||_}
+use mathlib.Core.List.{List, [], _∷_}
+use mathlib.Core.Logic.{⊎-elim}
+use lib.Dec.{T, eqb}
+use types.Run.{OneOf}
+use denote.Enum.Declared.{tagOf}
+use Rattle.easing.specs.Kinds.{numberOf, curveOf, suppliedOf}
+use Rattle.easing.specs.Params.{noParams, paramsOf}
+use Rattle.easing.proofs.kinds.Easing.{the-type}
+use Rattle.easing.specs.declared.kinds.Easing.{Easing}
+use Rattle.easing.specs.declared.kinds.Easing.the-variants.{Linear, EaseInQuad, EaseOutQuad, EaseInOutQuad, EaseInCubic, EaseOutCubic, EaseInOutCubic, EaseInQuart, EaseOutQuart, EaseInOutQuart, EaseInQuint, EaseOutQuint, EaseInOutQuint, EaseInSine, EaseOutSine, EaseInOutSine, EaseInExpo, EaseOutExpo, EaseInOutExpo, EaseInCirc, EaseOutCirc, EaseInOutCirc, EaseInBack, EaseOutBack, EaseInOutBack, EaseInElastic, EaseOutElastic, EaseInOutElastic, EaseInBounce, EaseOutBounce, EaseInOutBounce, CubicBezier, Steps, RoughEase, SlowMo, Wiggle, CustomBounce, ExpoScale}
+
+abbrev pub among : List ℕ → ℕ → Bool
+among [] n = false
+among (k ∷ ks) n = eqb n k || among ks n
+
+-- the kinds that are named and refused
+abbrev pub twelve : List ℕ
+twelve = 13 ∷ 14 ∷ 15 ∷ 16 ∷ 17 ∷ 18 ∷ 25 ∷ 26 ∷ 27 ∷ 33 ∷ 35 ∷ 37 ∷ []
+
+-- the kinds with parameters
+abbrev pub four : List ℕ
+four = 31 ∷ 32 ∷ 34 ∷ 36 ∷ []
+
+pub record Told (e : Easing) : Type 0 where
+  pub tag : tagOf the-type e ≡ numberOf e
+  pub supplied : suppliedOf e ≡ not (among twelve (numberOf e))
+  pub plain : among four (numberOf e) ≡ false → paramsOf e ≡ noParams
+
+with-params : (e : Easing) → tagOf the-type e ≡ numberOf e → suppliedOf e ≡ not (among twelve (numberOf e)) → among four (numberOf e) ≡ true → Told e
+with-params e t s f = record { tag = t; supplied = s; plain = λ p. absurd (subst T (sym f ∙ p) tt) }
+
+without : (e : Easing) → tagOf the-type e ≡ numberOf e → suppliedOf e ≡ not (among twelve (numberOf e)) → paramsOf e ≡ noParams → Told e
+without e t s p = record { tag = t; supplied = s; plain = λ _. p }
+
+pub told : (e : Easing) → Told e
+unfolding suppliedOf paramsOf
+told Linear = without Linear refl refl refl
+told EaseInQuad = without EaseInQuad refl refl refl
+told EaseOutQuad = without EaseOutQuad refl refl refl
+told EaseInOutQuad = without EaseInOutQuad refl refl refl
+told EaseInCubic = without EaseInCubic refl refl refl
+told EaseOutCubic = without EaseOutCubic refl refl refl
+told EaseInOutCubic = without EaseInOutCubic refl refl refl
+told EaseInQuart = without EaseInQuart refl refl refl
+told EaseOutQuart = without EaseOutQuart refl refl refl
+told EaseInOutQuart = without EaseInOutQuart refl refl refl
+told EaseInQuint = without EaseInQuint refl refl refl
+told EaseOutQuint = without EaseOutQuint refl refl refl
+told EaseInOutQuint = without EaseInOutQuint refl refl refl
+told EaseInSine = without EaseInSine refl refl refl
+told EaseOutSine = without EaseOutSine refl refl refl
+told EaseInOutSine = without EaseInOutSine refl refl refl
+told EaseInExpo = without EaseInExpo refl refl refl
+told EaseOutExpo = without EaseOutExpo refl refl refl
+told EaseInOutExpo = without EaseInOutExpo refl refl refl
+told EaseInCirc = without EaseInCirc refl refl refl
+told EaseOutCirc = without EaseOutCirc refl refl refl
+told EaseInOutCirc = without EaseInOutCirc refl refl refl
+told EaseInBack = without EaseInBack refl refl refl
+told EaseOutBack = without EaseOutBack refl refl refl
+told EaseInOutBack = without EaseInOutBack refl refl refl
+told EaseInElastic = without EaseInElastic refl refl refl
+told EaseOutElastic = without EaseOutElastic refl refl refl
+told EaseInOutElastic = without EaseInOutElastic refl refl refl
+told EaseInBounce = without EaseInBounce refl refl refl
+told EaseOutBounce = without EaseOutBounce refl refl refl
+told EaseInOutBounce = without EaseInOutBounce refl refl refl
+told (CubicBezier x1 y1 x2 y2) = with-params (CubicBezier x1 y1 x2 y2) refl refl refl
+told (Steps n) = with-params (Steps n) refl refl refl
+told (RoughEase strength points) = without (RoughEase strength points) refl refl refl
+told (SlowMo ratio power) = with-params (SlowMo ratio power) refl refl refl
+told (Wiggle wiggles) = without (Wiggle wiggles) refl refl refl
+told (CustomBounce strength) = with-params (CustomBounce strength) refl refl refl
+told (ExpoScale start end) = without (ExpoScale start end) refl refl refl
+
+abbrev every : (ℕ → Bool) → List ℕ → Bool
+every f [] = true
+every f (k ∷ ks) = f k && every f ks
+
+first : (a b : Bool) → T (a && b) → a ≡ true
+first true b h = refl
+first false b h = absurd h
+
+rest : (a b : Bool) → T (a && b) → T b
+rest true b h = h
+rest false b h = absurd h
+
+-- what a test says of each key of an arm, it says of the tag
+one-of : (f : ℕ → Bool) (ks : List ℕ) (x : ℕ) → T (every f ks) → OneOf ks x → f x ≡ true
+one-of f [] x h o = absurd o
+one-of f (k ∷ []) x h o = subst (λ n. f n ≡ true) (sym o) (first (f k) _ h)
+one-of f (k ∷ j ∷ ks) x h o = ⊎-elim (λ e. subst (λ n. f n ≡ true) (sym e) (first (f k) _ h)) (λ r. one-of f (j ∷ ks) x (rest (f k) _ h) r) o
+
+-- and so of the number of the kind
+pub numbered : (f : ℕ → Bool) (ks : List ℕ) (e : Easing) → T (every f ks) → OneOf ks (tagOf the-type e) → f (numberOf e) ≡ true
+numbered f ks e h o = subst (λ n. f n ≡ true) (told e .tag) (one-of f ks (tagOf the-type e) h o)

@@ -1,0 +1,38 @@
+-- Document 01, "Easing" and "Refusal numbers": what an easing answers at a progress, and whether two easings are equal.
+use mathlib.Core.Bool.{Bool, true, false, _&&_, cond}
+use mathlib.Core.Option.{Option, none, some}
+use lib.Dec.{eqb}
+use lib.Ieee.{Float, isNan}
+use Rattle.math.specs.Range.{clamp01Of}
+use Rattle.refusal.specs.declared.Refusal.the-variants.{ProgressIsNan, EasingNotSupplied, EasingParameter}
+use Rattle.easing.specs.declared.kinds.Easing.{Easing}
+use Rattle.easing.specs.declared.answers.Eased.{Eased}
+use Rattle.easing.specs.declared.answers.Eased.the-variants.{Value, Refused}
+use Rattle.easing.specs.declared.answers.Equality.{Equality}
+use Rattle.easing.specs.declared.answers.Equality.the-variants as equality
+use Rattle.easing.specs.Kinds.{numberOf, curveOf, suppliedOf}
+use Rattle.easing.specs.Params.{paramsOf, withinOf, equalOf}
+
+-- 3 where a parameter is not within its limits
+abbrev pub limitedOf : Bool → Float → Eased
+limitedOf fine v = cond fine (Value v) (Refused EasingParameter)
+
+-- the curve at t, where there is one; `fine` says whether the parameters are within their limits
+abbrev pub easedAt : Option (Float → Float) → Bool → Float → Eased
+easedAt none fine t = Refused EasingNotSupplied
+easedAt (some curve) fine t = limitedOf fine (curve t)
+
+-- "t is clamped to 0..1, infinities too; NaN is refused with number 1". The order of the refusals is 1, 2, 3
+unfoldable pub applyOf : Easing → Float → Eased
+applyOf e t = cond (isNan t) (Refused ProgressIsNan) (easedAt (curveOf e) (withinOf (paramsOf e)) (clamp01Of t))
+
+-- the same kind with equal parameters
+abbrev pub sameOf : Easing → Easing → Bool
+sameOf x y = eqb (numberOf x) (numberOf y) && equalOf (paramsOf x) (paramsOf y)
+
+-- "`PartialEq` without `Custom` (2 and 3 apply to either side)"
+unfoldable pub eqOf : Easing → Easing → Equality
+eqOf x y =
+    cond (suppliedOf x && suppliedOf y)
+    (cond (withinOf (paramsOf x) && withinOf (paramsOf y)) (equality.Equal (sameOf x y)) (equality.Refused EasingParameter))
+    (equality.Refused EasingNotSupplied)

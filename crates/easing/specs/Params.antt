@@ -1,0 +1,70 @@
+-- Document 01, "Refusal numbers", 3: the parameters of an easing and their limits.
+use Prim.Native.Nat.{ℕ}
+use mathlib.Core.Bool.{Bool, _&&_}
+use lib.Dec.{leb, eqb}
+use lib.Ieee.{Float, le, eq}
+use Rattle.math.specs.Rounded.{f32, zeroF}
+use Rattle.math.specs.Range.{finiteOf, sizeOf}
+use Rattle.easing.specs.declared.kinds.Easing.{Easing}
+use Rattle.easing.specs.declared.kinds.Easing.the-variants.{Linear, EaseInQuad, EaseOutQuad, EaseInOutQuad, EaseInCubic, EaseOutCubic, EaseInOutCubic, EaseInQuart, EaseOutQuart, EaseInOutQuart, EaseInQuint, EaseOutQuint, EaseInOutQuint, EaseInSine, EaseOutSine, EaseInOutSine, EaseInExpo, EaseOutExpo, EaseInOutExpo, EaseInCirc, EaseOutCirc, EaseInOutCirc, EaseInBack, EaseOutBack, EaseInOutBack, EaseInElastic, EaseOutElastic, EaseInOutElastic, EaseInBounce, EaseOutBounce, EaseInOutBounce, CubicBezier, Steps, RoughEase, SlowMo, Wiggle, CustomBounce, ExpoScale}
+use Rattle.easing.specs.declared.params.Params.{Params}
+
+-- two that have no limit of size, a and c, two that have one, b and d, and a count
+abbrev pub params : Float → Float → Float → Float → ℕ → Params
+params a b c d n = record { a = a; b = b; c = c; d = d; count = n }
+
+abbrev pub noParams : Params
+noParams = params zeroF zeroF zeroF zeroF 0
+
+-- the parameters of the twelve are never looked at
+unfoldable pub paramsOf : Easing → Params
+paramsOf Linear = noParams
+paramsOf EaseInQuad = noParams
+paramsOf EaseOutQuad = noParams
+paramsOf EaseInOutQuad = noParams
+paramsOf EaseInCubic = noParams
+paramsOf EaseOutCubic = noParams
+paramsOf EaseInOutCubic = noParams
+paramsOf EaseInQuart = noParams
+paramsOf EaseOutQuart = noParams
+paramsOf EaseInOutQuart = noParams
+paramsOf EaseInQuint = noParams
+paramsOf EaseOutQuint = noParams
+paramsOf EaseInOutQuint = noParams
+paramsOf EaseInSine = noParams
+paramsOf EaseOutSine = noParams
+paramsOf EaseInOutSine = noParams
+paramsOf EaseInExpo = noParams
+paramsOf EaseOutExpo = noParams
+paramsOf EaseInOutExpo = noParams
+paramsOf EaseInCirc = noParams
+paramsOf EaseOutCirc = noParams
+paramsOf EaseInOutCirc = noParams
+paramsOf EaseInBack = noParams
+paramsOf EaseOutBack = noParams
+paramsOf EaseInOutBack = noParams
+paramsOf EaseInElastic = noParams
+paramsOf EaseOutElastic = noParams
+paramsOf EaseInOutElastic = noParams
+paramsOf EaseInBounce = noParams
+paramsOf EaseOutBounce = noParams
+paramsOf EaseInOutBounce = noParams
+paramsOf (CubicBezier x1 y1 x2 y2) = params x1 y1 x2 y2 0
+paramsOf (Steps n) = params zeroF zeroF zeroF zeroF n
+paramsOf (RoughEase strength points) = noParams
+paramsOf (SlowMo ratio power) = params ratio power zeroF zeroF 0
+paramsOf (Wiggle wiggles) = noParams
+paramsOf (CustomBounce strength) = params strength zeroF zeroF zeroF 0
+paramsOf (ExpoScale start end) = noParams
+
+-- at most 1,024 in size
+abbrev pub upTo1024 : Float → Bool
+upTo1024 x = le (sizeOf x) (f32 0x4480_0000)
+
+-- "parameter is not finite, a Bezier y or a power is beyond 1,024 in size, or Steps is above 65,536"
+unfoldable pub withinOf : Params → Bool
+withinOf p = finiteOf (p .a) && upTo1024 (p .b) && finiteOf (p .c) && upTo1024 (p .d) && leb (p .count) 65536
+
+-- as the Rust compares them: -0 equals 0
+unfoldable pub equalOf : Params → Params → Bool
+equalOf p q = eq (p .a) (q .a) && eq (p .b) (q .b) && eq (p .c) (q .c) && eq (p .d) (q .d) && eqb (p .count) (q .count)
