@@ -1,4 +1,6 @@
 pub mod Powers
+pub mod Root
+pub mod Circ
 pub mod Back
 pub mod Bounce
 pub mod Stairs

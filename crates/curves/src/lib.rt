@@ -2,7 +2,9 @@
 // with t clamped and the parameters within their limits.
 mod back;
 mod bounce;
+mod circ;
 mod powers;
+mod root;
 mod slow;
 mod stairs;
 
@@ -13,6 +15,9 @@ pub use bounce::custom_bounce;
 pub use bounce::ease_in_bounce;
 pub use bounce::ease_in_out_bounce;
 pub use bounce::ease_out_bounce;
+pub use circ::ease_in_circ;
+pub use circ::ease_in_out_circ;
+pub use circ::ease_out_circ;
 pub use powers::ease_in_cubic;
 pub use powers::ease_in_out_cubic;
 pub use powers::ease_in_out_quad;

@@ -56,7 +56,10 @@ impl Easing {
                 bezier::cubic_bezier(u, x1, y1, x2, y2),
             ),
             Easing::Steps(n) => limited(within(params_of(self)), curves::steps(u, n)),
-            Easing::SlowMo { linear_ratio, power } => limited(
+            Easing::SlowMo {
+                linear_ratio,
+                power,
+            } => limited(
                 within(params_of(self)),
                 curves::slow_mo(u, linear_ratio, power),
             ),

@@ -87,8 +87,14 @@ impl Easing {
             Easing::EaseInOutBounce => 30,
             Easing::CubicBezier(_, _, _, _) => 31,
             Easing::Steps(_) => 32,
-            Easing::RoughEase { strength: _, points: _ } => 33,
-            Easing::SlowMo { linear_ratio: _, power: _ } => 34,
+            Easing::RoughEase {
+                strength: _,
+                points: _,
+            } => 33,
+            Easing::SlowMo {
+                linear_ratio: _,
+                power: _,
+            } => 34,
             Easing::Wiggle { wiggles: _ } => 35,
             Easing::CustomBounce { strength: _ } => 36,
             Easing::ExpoScale { start: _, end: _ } => 37,
@@ -109,7 +115,10 @@ impl Easing {
             | Easing::EaseInElastic
             | Easing::EaseOutElastic
             | Easing::EaseInOutElastic
-            | Easing::RoughEase { strength: _, points: _ }
+            | Easing::RoughEase {
+                strength: _,
+                points: _,
+            }
             | Easing::Wiggle { wiggles: _ }
             | Easing::ExpoScale { start: _, end: _ } => false,
             _ => true,
@@ -154,11 +163,20 @@ impl Easing {
             Easing::EaseInOutBounce,
             Easing::CubicBezier(0.25, 0.1, 0.25, 1.0),
             Easing::Steps(1),
-            Easing::RoughEase { strength: 0.5, points: 8 },
-            Easing::SlowMo { linear_ratio: 0.5, power: 0.7 },
+            Easing::RoughEase {
+                strength: 0.5,
+                points: 8,
+            },
+            Easing::SlowMo {
+                linear_ratio: 0.5,
+                power: 0.7,
+            },
             Easing::Wiggle { wiggles: 5 },
             Easing::CustomBounce { strength: 0.7 },
-            Easing::ExpoScale { start: 0.5, end: 2.0 },
+            Easing::ExpoScale {
+                start: 0.5,
+                end: 2.0,
+            },
         ]
     }
 }

@@ -16,11 +16,44 @@ pub fn params_of(e: Easing) -> Params
     ensures { λ r. ⌜ r ≡ paramsOf e ⌝ }
 {
     match e {
-        Easing::CubicBezier(x1, y1, x2, y2) => Params { a: x1, b: y1, c: x2, d: y2, count: 0 },
-        Easing::Steps(n) => Params { a: 0.0, b: 0.0, c: 0.0, d: 0.0, count: n },
-        Easing::SlowMo { linear_ratio, power } => Params { a: linear_ratio, b: power, c: 0.0, d: 0.0, count: 0 },
-        Easing::CustomBounce { strength } => Params { a: strength, b: 0.0, c: 0.0, d: 0.0, count: 0 },
-        _ => Params { a: 0.0, b: 0.0, c: 0.0, d: 0.0, count: 0 },
+        Easing::CubicBezier(x1, y1, x2, y2) => Params {
+            a: x1,
+            b: y1,
+            c: x2,
+            d: y2,
+            count: 0,
+        },
+        Easing::Steps(n) => Params {
+            a: 0.0,
+            b: 0.0,
+            c: 0.0,
+            d: 0.0,
+            count: n,
+        },
+        Easing::SlowMo {
+            linear_ratio,
+            power,
+        } => Params {
+            a: linear_ratio,
+            b: power,
+            c: 0.0,
+            d: 0.0,
+            count: 0,
+        },
+        Easing::CustomBounce { strength } => Params {
+            a: strength,
+            b: 0.0,
+            c: 0.0,
+            d: 0.0,
+            count: 0,
+        },
+        _ => Params {
+            a: 0.0,
+            b: 0.0,
+            c: 0.0,
+            d: 0.0,
+            count: 0,
+        },
     }
 }
 

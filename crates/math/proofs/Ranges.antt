@@ -11,7 +11,7 @@ use lib.Ieee.{Float, nan, inf, fin, binary32, up, down, round, sum, add, mul, ne
 use lib.Ieee.Fits.{down-pos}
 use lib.Ieee.Order.{round-mono}
 use Rattle.math.specs.Rounded.{_⊕_, _⊖_, _⊗_, zeroF, halfF, oneF, twoF}
-use Rattle.math.specs.Range.{clampOf, clamp01Of}
+use Rattle.math.specs.Range.{clampOf, clamp01Of, Within}
 use Rattle.math.proofs.Order.{le-sizes, not-lt-of-le, le-of-not-lt, le-numbers, le-self}
 use Rattle.math.proofs.Upward.{Up, up-none, sub-up, square-up}
 use Rattle.math.proofs.Sizes.{AtMost, up-to, round-neg, round-at-most, at-most-finite, mul-at-most, sub-near, at-most-either}
@@ -28,9 +28,6 @@ clamp-between x lo hi p h = go (lt x lo) (lt hi x) refl refl
     go true b k l = (le-self lo (ends .0), h)
     go false true k l = (h, le-self hi (ends .1))
     go false false k l = (le-of-not-lt x lo p (ends .0) k, le-of-not-lt hi x (ends .1) p l)
-
-abbrev pub Within : Float → Type 0
-Within x = Up x × T (le x oneF)
 
 zero-one : T (le zeroF oneF)
 unfolding le lt eq ofBits

@@ -1,6 +1,7 @@
 -- Document 01, "Easing" and "Order of the port": clamp, max with 0, the size without its sign, and which floats are finite.
 use mathlib.Core.Bool.{Bool, true, false, cond}
-use lib.Ieee.{Float, nan, inf, fin, lt}
+use lib.Dec.{T}
+use lib.Ieee.{Float, nan, inf, fin, lt, le}
 use Rattle.math.specs.Rounded.{zeroF, oneF}
 
 -- "Clamping keeps a zero's sign": what lies from lo to hi stays as it is; a NaN stays one
@@ -10,6 +11,10 @@ clampOf x lo hi = cond (lt x lo) lo (cond (lt hi x) hi x)
 -- "clamped to 0..1, infinities too"
 abbrev pub clamp01Of : Float → Float
 clamp01Of x = clampOf x zeroF oneF
+
+-- from 0 to 1
+abbrev pub Within : Float → Type 0
+Within x = T (le zeroF x) × T (le x oneF)
 
 -- "max with 0 gives +0 for either zero, and 0 for NaN"
 abbrev pub maxZeroOf : Float → Float

@@ -1,0 +1,42 @@
+-- The circular curves at a t from 0 to 1 are at most 1 in size, and the third at most 2. Assumes nothing.
+use mathlib.Core.Path.{_≡_, refl}
+use mathlib.Core.Bool.{Bool, true, false, cond}
+use Prim.Native.Nat.{ℕ, _*_, _≤_}
+use lib.IntN.{pos}
+use lib.Dec.{lit≤}
+use lib.Ieee.{Float, binary32, lt, neg, ofInt, ofBits}
+use lib.Ieee.Fits.{sub-fits}
+use Rattle.math.specs.Rounded.{_⊕_, _⊖_, _⊗_, _⊘_, halfF, oneF, twoF}
+use Rattle.math.specs.Range.{Within}
+use Rattle.math.proofs.Ranges.{one-within, within-at-most, rest, under-root, less-one, doubled, turned}
+use Rattle.math.proofs.Sizes.{AtMost, AtLeast, add-at-most, div-at-most}
+use Rattle.math.proofs.Wholes.{Is, whole-is}
+use Rattle.curves.specs.Circ.{arcOf, inCirc, outCirc, inOutCirc}
+use Rattle.curves.proofs.Roots.{sqrt-within}
+
+arc-within : (y : Float) → AtMost 1 y → Within (arcOf y)
+arc-within y h = sqrt-within (oneF ⊖ y ⊗ y) (sub-fits binary32 oneF (y ⊗ y)) (under-root y h)
+
+two-held : Is (ofInt binary32 (pos 2)) 2
+two-held = whole-is binary32 2 (lit≤ tt)
+
+two-least : AtLeast 1 twoF
+unfolding ofBits
+two-least = lit≤ tt
+
+halved : (p : ℕ) (x : Float) → p * 1 ≤ 2 → AtMost p x → AtMost 2 (x ⊘ twoF)
+halved p x l h = div-at-most binary32 2 two-held p 1 x twoF l h two-least
+
+pub circ-at-most : (t : Float) → Within t → AtMost 1 (inCirc t) × AtMost 1 (outCirc t) × AtMost 2 (inOutCirc t)
+unfolding inCirc outCirc inOutCirc
+circ-at-most t w = (
+  within-at-most (oneF ⊖ arcOf t) (rest (arcOf t) (arc-within t (within-at-most t w))),
+  within-at-most (arcOf (t ⊖ oneF)) (arc-within (t ⊖ oneF) (less-one t w)),
+  go (lt t halfF) refl,
+)
+  where
+    go : (b : Bool) → lt t halfF ≡ b → AtMost 2 (cond b ((oneF ⊖ arcOf (twoF ⊗ t)) ⊘ twoF) ((arcOf (neg twoF ⊗ t ⊕ twoF) ⊕ oneF) ⊘ twoF))
+    go true h = halved 1 (oneF ⊖ arcOf (twoF ⊗ t)) (lit≤ tt) (within-at-most (oneF ⊖ arcOf (twoF ⊗ t)) (rest (arcOf (twoF ⊗ t)) (arc-within (twoF ⊗ t) (doubled t w h))))
+    go false h =
+        let y = neg twoF ⊗ t ⊕ twoF in
+        halved 2 (arcOf y ⊕ oneF) (lit≤ tt) (add-at-most binary32 2 two-held 1 1 (arcOf y) oneF (lit≤ tt) (within-at-most (arcOf y) (arc-within y (turned t w h))) (within-at-most oneF one-within))
