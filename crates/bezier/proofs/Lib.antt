@@ -1,2 +1,7 @@
-mod Examples
+pub mod Answers
+mod Bounds
+pub mod Counts
+pub mod Examples
+pub mod Inside
+pub mod Numbers
 mod Steps

@@ -1,6 +1,6 @@
 -- The two loops of the search, one turn at a time: what the definition says of n steps, k of which are done. Assumes nothing.
 use Prim.Native.Nat.{ℕ, suc, _+_, _-_, _<_}
-use mathlib.Core.Path.{_≡_}
+use mathlib.Core.Path.{_≡_, ap}
 use mathlib.Core.Bool.{Bool, true, false}
 use native.Mathlib.Omega.{arith}
 use lib.Ieee.{Float}
@@ -9,6 +9,9 @@ use Rattle.bezier.specs.Search.{Found, foundAt, after, cutOf, nearOf, tu
 use Rattle.bezier.specs.declared.types.Turn.{Turn}
 use Rattle.bezier.specs.declared.types.Turn.the-variants.{Near, Flat, Next}
 use Rattle.bezier.specs.declared.types.Span.{Span}
+
+pub same-u : {f g : Found} → f ≡ g → f .u ≡ g .u
+same-u e = ap (λ (f : Found). f .u) e
 
 left : (n k : ℕ) → k < n → n - k ≡ suc (n - (k + 1))
 left n k h = omega arith

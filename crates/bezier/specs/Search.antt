@@ -9,46 +9,49 @@ use Rattle.bezier.specs.declared.types.Turn.{Turn}
 use Rattle.bezier.specs.declared.types.Turn.the-variants.{Near, Flat, Next}
 use Rattle.bezier.specs.declared.types.Span.{Span}
 
--- 1e-6, the tolerance and the limit of the derivative
-abbrev pub tinyF : Float
-tinyF = f32 0x3586_37bd
-
--- the u found, whether the last x evaluated met the tolerance, and how many x and how many derivatives were evaluated
+-- what the search found: the u, whether the last x evaluated met the tolerance, and how many x and how many derivatives were evaluated
 pub record Found : Type 0 where
   pub u : Float
   pub settled : Bool
   pub xs : ℕ
   pub slopes : ℕ
 
--- with nothing more to evaluate
+-- found with no evaluation
 abbrev pub foundAt : Bool → Float → Found
 foundAt b u = record { u = u; settled = b; xs = 0; slopes = 0 }
 
--- after so many x and so many derivatives
+-- found after so many x and so many derivatives more
 abbrev pub after : ℕ → ℕ → Found → Found
 after x d f = record { u = f .u; settled = f .settled; xs = x + f .xs; slopes = d + f .slopes }
 
--- the next u lies in the middle
+-- 1e-6
+abbrev pub tinyF : Float
+tinyF = f32 0x3586_37bd
+
+-- the source's next u in a bisection
 abbrev pub middleOf : Float → Float → Span
 middleOf low high = record { low = low; high = high; u = (low ⊕ high) ⊗ halfF }
 
--- the upper half of s where the curve's x at its u is below t, and else the lower
+-- a bisection of s: the upper part where the curve's x at its u is below t, and else the lower
 abbrev pub cutOf : Span → Float → Float → Span
 cutOf s x t = cond (lt x t) (middleOf (s .u) (s .high)) (middleOf (s .low) (s .u))
 
 module _ (x1 x2 t : Float) where
-  -- "tolerance 1e-6": whether the curve's x at u is near enough to t
-  abbrev pub nearOf : Float → Bool
-  nearOf u = lt (sizeOf (sampleCubicOf x1 x2 u ⊖ t)) tinyF
+  -- how far the curve's x at u is from t
+  abbrev pub missOf : Float → Float
+  missOf u = sampleCubicOf x1 x2 u ⊖ t
 
-  -- one Newton step from u, "left on a derivative below 1e-6 in size"
+  -- "tolerance 1e-6"
+  abbrev pub nearOf : Float → Bool
+  nearOf u = lt (sizeOf (missOf u)) tinyF
+
+  -- a Newton step from u, "left on a derivative below 1e-6 in size"
   unfoldable pub turnOf : Float → Turn
   turnOf u =
-      let x = sampleCubicOf x1 x2 u ⊖ t in
       let derivative = sampleCubicDerivativeOf x1 x2 u in
-      cond (nearOf u) Near (cond (lt (sizeOf derivative) tinyF) Flat (Next (clamp01Of (u ⊖ x ⊘ derivative))))
+      cond (nearOf u) Near (cond (lt (sizeOf derivative) tinyF) Flat (Next (clamp01Of (u ⊖ missOf u ⊘ derivative))))
 
-  -- at most so many halvings of s, where the x at its u is near as told; after the last one no x is evaluated
+  -- up to so many bisections of s, where `near` says whether x is near at its u; after the last no x is evaluated
   unfoldable pub bisectOf : ℕ → Bool → Span → Found
   bisectOf zero near s = foundAt false (s .u)
   bisectOf (suc n) true s = after 1 0 (foundAt true (s .u))
@@ -58,7 +61,7 @@ module _ (x1 x2 t : Float) where
   abbrev pub bisectionOf : Found
   bisectionOf = bisectOf 10 (nearOf t) (record { low = zeroF; high = oneF; u = t })
 
-  -- at most so many Newton steps from u, where the first does as told
+  -- up to so many Newton steps, where `turn` is the step from u; after the last the step from its u is not made
   unfoldable pub newtonOf : ℕ → Turn → Float → Found
   newtonOf zero turn u = bisectionOf
   newtonOf (suc n) Near u = after 1 0 (foundAt true u)

@@ -6,10 +6,10 @@ use crate::curve::sample_cubic_derivative;
 use crate::types::Span;
 use crate::types::Turn;
 
-// How far the curve's x may lie from t.
+// The curve's x is near enough to t below this distance.
 const TOLERANCE: f32 = 0.000001;
 
-// Below this size a derivative is not divided by.
+// The curve is too flat below this size of its derivative.
 const FLAT: f32 = 0.000001;
 
 fn newton_turn(x1: f32, x2: f32, t: f32, u: f32) -> Turn
@@ -26,17 +26,18 @@ fn newton_turn(x1: f32, x2: f32, t: f32, u: f32) -> Turn
     Turn::Next(math::clamp01(u - x / derivative))
 }
 
+// The span from low to high, to be tried in the middle.
 fn middle(low: f32, high: f32) -> Span
     ensures { λ r. ⌜ r ≡ middleOf low high ⌝ }
 {
     Span {
-        low: low,
-        high: high,
+        low,
+        high,
         u: (low + high) * 0.5,
     }
 }
 
-// The half of s to go on with, where x is the curve's at s.u.
+// The part of s to go on with, below or above s.u, where the curve is at x.
 fn cut(s: Span, x: f32, t: f32) -> Span
     ensures { λ r. ⌜ r ≡ cutOf s x t ⌝ }
 {
@@ -48,7 +49,7 @@ fn cut(s: Span, x: f32, t: f32) -> Span
 }
 
 fn bisect(x1: f32, x2: f32, t: f32, start: Span) -> f32
-    ensures { λ r. ⌜ r ≡ bisectOf x1 x2 t 10 (nearOf x1 x2 t (start .u)) start .u ⌝ }
+    ensures { λ r. ⌜ r ≡ (bisectOf x1 x2 t 10 (nearOf x1 x2 t (start .u)) start) .u ⌝ }
 {
     let mut s = start;
     for k in 0..10u32 {
@@ -62,9 +63,9 @@ fn bisect(x1: f32, x2: f32, t: f32, start: Span) -> f32
     s.u
 }
 
-// Newton steps first; where they do not settle, halvings, again from t.
+// Newton steps from t; where they do not settle, halvings, again from t.
 pub fn solve(x1: f32, x2: f32, t: f32) -> f32
-    ensures { λ r. ⌜ r ≡ solveOf x1 x2 t .u ⌝ }
+    ensures { λ r. ⌜ r ≡ (solveOf x1 x2 t) .u ⌝ }
 {
     let mut u = t;
     for k in 0..6u32 {
@@ -80,14 +81,10 @@ pub fn solve(x1: f32, x2: f32, t: f32) -> f32
             }
         }
     }
-    bisect(
-        x1,
-        x2,
-        t,
-        Span {
-            low: 0.0,
-            high: 1.0,
-            u: t,
-        },
-    )
+    let start = Span {
+        low: 0.0,
+        high: 1.0,
+        u: t,
+    };
+    bisect(x1, x2, t, start)
 }

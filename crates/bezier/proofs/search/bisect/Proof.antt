@@ -1,10 +1,10 @@
 -- `bisect` meets its contract. The loop's invariant: the definition from the span at hand finds the u that it finds from the start. Assumes nothing.
 use Prim.Native.Nat.{_≤_, _-_}
-use mathlib.Core.Path.{_≡_, refl, sym, ap, _∙_}
+use mathlib.Core.Path.{_≡_, refl, sym, _∙_}
 use native.Mathlib.Omega.{arith}
 use borrow.Author.Needs.{needs}
-use Rattle.bezier.specs.Search.{Found, nearOf, bisectOf}
-use Rattle.bezier.proofs.Steps.{bisect-near, bisect-next, bisect-spent}
+use Rattle.bezier.specs.Search.{nearOf, bisectOf}
+use Rattle.bezier.proofs.Steps.{same-u, bisect-near, bisect-next, bisect-spent}
 use Rattle.bezier.proofs.search.bisect.Statement.{statement}
 use Rattle.bezier.proofs.search.bisect.Tie as tie
 
@@ -16,13 +16,13 @@ abbrev μ-loop : tie.MeasureT-loop
 
 near : tie.Need-returns Inv-loop μ-loop
 near c =
-    sym (ap (λ (f : Found). f .u) (bisect-near _ _ _ 10 _ _ (c .before .before .before .loop-test .taken) (rw (← c .before .before .sample-cubic .ensures, ← c .before .size .ensures) (c .if1 .taken))))
+    sym (same-u (bisect-near _ _ _ 10 _ _ (c .before .before .before .loop-test .taken) (rw (← c .before .before .sample-cubic .ensures, ← c .before .size .ensures) (c .if1 .taken))))
     ∙ c .before .before .before .before .loop .inv .1
 
 next : tie.Need-loop-again Inv-loop μ-loop
 next c = (
   search needs,
-  sym (ap (λ (f : Found). f .u) (bisect-next _ _ _ 10 _ _ _ (c .before .before .before .before .loop-test .taken) (rw (← c .before .before .before .sample-cubic .ensures, ← c .before .before .size .ensures) (c .before .if1 .left)) (rw (← c .before .before .before .sample-cubic .ensures) (c .cut .ensures))))
+  sym (same-u (bisect-next _ _ _ 10 _ _ _ (c .before .before .before .before .loop-test .taken) (rw (← c .before .before .before .sample-cubic .ensures, ← c .before .before .size .ensures) (c .before .if1 .left)) (rw (← c .before .before .before .sample-cubic .ensures) (c .cut .ensures))))
       ∙ c .before .before .before .before .before .loop .inv .1,
 )
 
@@ -40,4 +40,4 @@ bisect-spec =
     (λ c. search needs)
     (λ c. search needs)
     next
-    (λ c. sym (ap (λ (f : Found). f .u) (bisect-spent _ _ _ 10 _ _ _ (omega arith))) ∙ c .before .loop .inv .1))
+    (λ c. sym (same-u (bisect-spent _ _ _ 10 _ _ _ (omega arith))) ∙ c .before .loop .inv .1))

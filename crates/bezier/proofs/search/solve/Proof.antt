@@ -1,11 +1,11 @@
 -- `solve` meets its contract. The loop's invariant: the definition from the u at hand finds the u that it finds from t. Assumes nothing.
 use Prim.Native.Nat.{_≤_, _-_}
-use mathlib.Core.Path.{_≡_, refl, sym, ap, _∙_}
+use mathlib.Core.Path.{_≡_, refl, sym, _∙_}
 use mathlib.Core.Logic.{⊎-elim}
 use native.Mathlib.Omega.{arith}
 use borrow.Author.Needs.{needs}
-use Rattle.bezier.specs.Search.{Found, turnOf, newtonOf, bisectionOf, solveOf}
-use Rattle.bezier.proofs.Steps.{newton-near, newton-flat, newton-next, newton-spent}
+use Rattle.bezier.specs.Search.{turnOf, newtonOf, solveOf}
+use Rattle.bezier.proofs.Steps.{same-u, newton-near, newton-flat, newton-next, newton-spent}
 use Rattle.bezier.proofs.search.solve.Statement.{statement}
 use Rattle.bezier.proofs.search.solve.Tie as tie
 
@@ -17,13 +17,13 @@ abbrev μ-loop : tie.MeasureT-loop
 
 near : tie.Need-returns Inv-loop μ-loop
 near c =
-    sym (ap (λ (f : Found). f .u) (newton-near _ _ _ 6 _ _ (c .before .before .before .loop-test .taken) (sym (c .before .before .newton-turn .ensures) ∙ c .enum-told .given .1)))
+    sym (same-u (newton-near _ _ _ 6 _ _ (c .before .before .before .loop-test .taken) (sym (c .before .before .newton-turn .ensures) ∙ c .enum-told .given .1)))
     ∙ c .before .before .before .before .loop .inv .1
 
 next : tie.Need-loop-again Inv-loop μ-loop
 next c = (
   search needs,
-  sym (ap (λ (f : Found). f .u) (newton-next _ _ _ 6 _ _ _ (c .before .before .before .before .loop-test .taken) (sym (c .before .before .before .newton-turn .ensures) ∙ c .before .v .given .1)))
+  sym (same-u (newton-next _ _ _ 6 _ _ _ (c .before .before .before .before .loop-test .taken) (sym (c .before .before .before .newton-turn .ensures) ∙ c .before .v .given .1)))
       ∙ c .before .before .before .before .before .loop .inv .1,
 )
 
@@ -32,8 +32,8 @@ rest : tie.Need-returns-2 Inv-loop μ-loop
 rest c =
     c .bisect .ensures
     ∙ sym
-    (⊎-elim (λ l. ap (λ (f : Found). f .u) (newton-spent _ _ _ 6 _ _ _ (omega (arith, l .left))))
-    (λ b. ap (λ (f : Found). f .u) (newton-flat _ _ _ 6 _ _ (b .0 .taken) (sym (b .1 .ensures) ∙ b .3 .given .1)))
+    (⊎-elim (λ l. same-u (newton-spent _ _ _ 6 _ _ _ (omega (arith, l .left))))
+    (λ b. same-u (newton-flat _ _ _ 6 _ _ (b .0 .taken) (sym (b .1 .ensures) ∙ b .3 .given .1)))
     (c .before .loop-test .came))
     ∙ c .before .before .loop .inv .1
 
