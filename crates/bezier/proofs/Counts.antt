@@ -1,4 +1,4 @@
--- How many evaluations the search makes: of x at most one for each Newton step and each halving, of the derivative at most one for each Newton step. Assumes nothing.
+-- How many evaluations the search makes: of x at most one for each Newton step and each bisection, of the derivative at most one for each Newton step. Assumes nothing.
 use Prim.Native.Nat.{ℕ, zero, suc, _+_, _≤_, zero-le}
 use mathlib.Core.Bool.{Bool, true, false, cond}
 use native.Mathlib.Omega.{arith}
@@ -11,6 +11,7 @@ use Rattle.bezier.specs.declared.types.Turn.{Turn}
 use Rattle.bezier.specs.declared.types.Turn.the-variants.{Near, Flat, Next}
 use Rattle.bezier.specs.declared.types.Span.{Span}
 
+-- at most so many x and so many derivatives
 abbrev pub AtMostEach : ℕ → ℕ → Found → Type 0
 AtMostEach x d f = (f .xs ≤ x) × (f .slopes ≤ d)
 

@@ -5,7 +5,7 @@ use mathlib.Core.Bool.{Bool, true, false, cond}
 use native.Mathlib.Nat.{mul-pos, zero-lt-suc}
 use native.Mathlib.Omega.{arith}
 use lib.Dec.{T, lit≤}
-use lib.Ieee.{Float, nan, inf, fin, binary32, up, down, mul, lt, le, eq, isNan, ofBits}
+use lib.Ieee.{Float, nan, inf, fin, binary32, unlike, up, down, mul, lt, le, eq, isNan, ofBits}
 use lib.Ieee.Fits.{down-pos}
 use Rattle.math.specs.Rounded.{_⊕_, _⊖_, _⊗_, _⊘_, zeroF, halfF}
 use Rattle.math.specs.Range.{clamp01Of, sizeOf, finiteOf}
@@ -44,8 +44,7 @@ halved : (x : Float) → AtMost 2 x → AtMost 1 (x ⊗ halfF)
 unfolding mul ofBits
 halved nan h = absurd h
 halved (inf s) h = absurd h
-halved (fin true m e) h = round-at-most binary32 1 one-held true (m * up e * 1) (down e * 2) (mul-pos (down-pos e) (zero-lt-suc 1)) (omega arith)
-halved (fin false m e) h = round-at-most binary32 1 one-held false (m * up e * 1) (down e * 2) (mul-pos (down-pos e) (zero-lt-suc 1)) (omega arith)
+halved (fin s m e) h = round-at-most binary32 1 one-held (unlike s false) (m * up e * 1) (down e * 2) (mul-pos (down-pos e) (zero-lt-suc 1)) (omega arith)
 
 middle-within : (x y : Float) → Within x → Within y → Within ((x ⊕ y) ⊗ halfF)
 middle-within x y v w =
@@ -73,7 +72,7 @@ unfolding lt ofBits
 limit-above-zero = tt
 
 module _ (x1 x2 t : Float) (w1 : Within x1) (w2 : Within x2) (wt : Within t) where
-  bisect-within : (n : ℕ) (near : Bool) (s : Span) → SpanWithin s → Within (bisectOf x1 x2 t n near s .u)
+  bisect-within : (n : ℕ) (near : Bool) (s : Span) → SpanWithin s → Within ((bisectOf x1 x2 t n near s) .u)
   unfolding bisectOf
   bisect-within zero near s w = w .2
   bisect-within (suc n) true s w = w .2
@@ -81,7 +80,7 @@ module _ (x1 x2 t : Float) (w1 : Within x1) (w2 : Within x2) (wt : Within t) whe
       let r = cutOf s (sampleCubicOf x1 x2 (s .u)) t in
       bisect-within n (nearOf x1 x2 t (r .u)) r (cut-within s (sampleCubicOf x1 x2 (s .u)) t w)
 
-  bisection-within : Within (bisectionOf x1 x2 t .u)
+  bisection-within : Within ((bisectionOf x1 x2 t) .u)
   bisection-within = bisect-within 10 _ _ (zero-within, one-within, wt)
 
   turn-within : (u : Float) → Within u → NextWithin (turnOf x1 x2 t u)
@@ -104,14 +103,14 @@ module _ (x1 x2 t : Float) (w1 : Within x1) (w2 : Within x2) (wt : Within t) whe
           let f : T (finiteOf d) = at-most-finite 60 d k in
           clamped (u ⊖ x ⊘ d) (sub-number binary32 u (x ⊘ d) (within-finite u w) (div-number binary32 x d (at-most-finite 26 x m) f (not-zero d tinyF f limit-above-zero h)))
 
-  newton-within : (n : ℕ) (turn : Turn) (u : Float) → NextWithin turn → Within u → Within (newtonOf x1 x2 t n turn u .u)
+  newton-within : (n : ℕ) (turn : Turn) (u : Float) → NextWithin turn → Within u → Within ((newtonOf x1 x2 t n turn u) .u)
   unfolding newtonOf
   newton-within zero turn u v w = bisection-within
   newton-within (suc n) Near u v w = w
   newton-within (suc n) Flat u v w = bisection-within
   newton-within (suc n) (Next v) u w z = newton-within n (turnOf x1 x2 t v) v (turn-within v w) w
 
-pub found-within : (t x1 x2 : Float) → Within t → T (finiteOf x1) → T (finiteOf x2) → Within (foundOf t x1 x2 .u)
+pub found-within : (t x1 x2 : Float) → Within t → T (finiteOf x1) → T (finiteOf x2) → Within ((foundOf t x1 x2) .u)
 unfolding foundOf
 found-within t x1 x2 w p q = go (atEnd t)
   where

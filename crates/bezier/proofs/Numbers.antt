@@ -1,6 +1,6 @@
 -- Which results are no NaN: a rounded fraction, a finite float less a float that is none, and the quotient of two finite floats of which the second is not a zero. Assumes nothing.
 use mathlib.Core.Path.{_≡_, refl, sym, ap, _∙_, subst, subst⁻¹}
-use mathlib.Core.Bool.{Bool, true, false, _&&_, _||_, Bool·beq, cond, true≢false}
+use mathlib.Core.Bool.{Bool, true, false, not, _&&_, _||_, Bool·beq, cond, true≢false}
 use Prim.Native.Nat.{ℕ, zero, suc, _+_, _-_, _*_, _^_}
 use native.Mathlib.Nat.{zero-mul, le-of-eq}
 use borrow.Author.Tests.{eqb-true}
@@ -44,8 +44,7 @@ sub-number f nan y p q = absurd p
 sub-number f (inf s) y p q = absurd p
 sub-number f (fin s m e) nan p q = absurd (true≢false q)
 sub-number f (fin s m e) (inf t) p q = refl
-sub-number f (fin s m e) (fin true n d) p q = sum-number f s (m * up e * down d) false (n * up d * down e) (down e * down d)
-sub-number f (fin s m e) (fin false n d) p q = sum-number f s (m * up e * down d) true (n * up d * down e) (down e * down d)
+sub-number f (fin s m e) (fin t n d) p q = sum-number f s (m * up e * down d) (not t) (n * up d * down e) (down e * down d)
 
 pub div-number : (f : Format) (x y : Float) → T (finiteOf x) → T (finiteOf y) → eq y zeroF ≡ false → isNan (div f x y) ≡ false
 unfolding div eq isNan ofBits

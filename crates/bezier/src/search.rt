@@ -63,7 +63,7 @@ fn bisect(x1: f32, x2: f32, t: f32, start: Span) -> f32
     s.u
 }
 
-// Newton steps from t; where they do not settle, halvings, again from t.
+// Newton steps from t; where they do not end near enough, bisections, again from t.
 pub fn solve(x1: f32, x2: f32, t: f32) -> f32
     ensures { λ r. ⌜ r ≡ (solveOf x1 x2 t) .u ⌝ }
 {

@@ -1,4 +1,4 @@
--- `cut` meets its contract: each arm is the half that the definition picks at the test. Assumes nothing.
+-- `cut` meets its contract: each arm is the part that the definition picks at the test. Assumes nothing.
 use borrow.Author.Needs.{needs}
 use Rattle.bezier.proofs.search.cut.Statement.{statement}
 use Rattle.bezier.proofs.search.cut.Tie as tie
