@@ -1,0 +1,22 @@
+-- The definitions, computed: each constant is the f32 nearest to its decimal, and three answers with what the search found for them. Assumes nothing.
+use mathlib.Core.Path.{_≡_, refl}
+use mathlib.Core.Bool.{true, false}
+use lib.Ieee.{binary32, round, add, sub, mul, div, neg, lt, eq, ofBits}
+use Rattle.math.specs.Rounded.{f32, zeroF, halfF, oneF, twoF}
+use Rattle.bezier.specs.Curve.{threeF, sampleCubicOf, sampleCubicDerivativeOf}
+use Rattle.bezier.specs.Search.{tinyF, turnOf, bisectOf, newtonOf}
+use Rattle.bezier.specs.Bezier.{foundOf, cubicBezier}
+
+pub constants : (round binary32 false 1 1000000 ≡ tinyF) × (round binary32 false 1 2 ≡ halfF) × (round binary32 false 2 1 ≡ twoF) × (round binary32 false 3 1 ≡ threeF)
+unfolding round ofBits
+constants = (refl, refl, refl, refl)
+
+-- CubicBezier(0, 0, 1, 1) and CubicBezier(0.25, 0.1, 0.25, 1) at 0.5, and CubicBezier(1, 0, 0, 1) at 0.45: near at t, near after four Newton steps, and not near after all steps and bisections
+pub examples : (cubicBezier halfF zeroF zeroF oneF oneF ≡ halfF)
+    × (foundOf halfF zeroF oneF ≡ record { u = halfF; settled = true; xs = 1; slopes = 0 })
+    × (cubicBezier halfF (f32 0x3e80_0000) (f32 0x3dcc_cccd) (f32 0x3e80_0000) oneF ≡ f32 0x3f4d_6a4f)
+    × (foundOf halfF (f32 0x3e80_0000) (f32 0x3e80_0000) ≡ record { u = f32 0x3f33_172e; settled = true; xs = 5; slopes = 4 })
+    × (cubicBezier (f32 0x3ee6_6666) oneF zeroF zeroF oneF ≡ f32 0x3e34_c5b3)
+    × (foundOf (f32 0x3ee6_6666) oneF zeroF ≡ record { u = f32 0x3e89_0666; settled = false; xs = 16; slopes = 6 })
+unfolding cubicBezier foundOf newtonOf bisectOf turnOf sampleCubicOf sampleCubicDerivativeOf add sub mul div neg lt eq round ofBits
+examples = (refl, refl, refl, refl, refl, refl)

@@ -1,0 +1,7 @@
+pub mod Answers
+mod Bounds
+pub mod Counts
+pub mod Examples
+pub mod Inside
+pub mod Numbers
+mod Steps

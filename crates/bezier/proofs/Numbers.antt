@@ -1,0 +1,76 @@
+-- Which results are no NaN: a rounded fraction, a finite float less a float that is none, and the quotient of two finite floats of which the second is not a zero. Assumes nothing.
+use mathlib.Core.Path.{_≡_, refl, sym, ap, _∙_, subst, subst⁻¹}
+use mathlib.Core.Bool.{Bool, true, false, not, _&&_, _||_, Bool·beq, cond, true≢false}
+use Prim.Native.Nat.{ℕ, zero, suc, _+_, _-_, _*_, _^_}
+use native.Mathlib.Nat.{zero-mul, le-of-eq}
+use borrow.Author.Tests.{eqb-true}
+use lib.Dec.{T, ltb, eqb, eqb·suc-zero, le→leb}
+use lib.Ieee.{Float, nan, inf, fin, Format, unlike, prec, emax, low, up, down, odd, units, round, sum, add, sub, div, neg, lt, le, eq, isNan, ofBits}
+use lib.Ieee.Fits.{round-is}
+use lib.Ieee.Order.{drop, kept}
+use Rattle.math.specs.Rounded.{zeroF}
+use Rattle.math.specs.Range.{sizeOf, finiteOf}
+use Rattle.math.proofs.Order.{le-sizes, le-lt-chain}
+
+either-number : (b : Bool) (x y : Float) → isNan x ≡ false → isNan y ≡ false → isNan (cond b x y) ≡ false
+either-number true x y p q = p
+either-number false x y p q = q
+
+inf-number : (s : Bool) → isNan (inf s) ≡ false
+unfolding isNan
+inf-number s = refl
+
+odd-number : (d : ℕ) (s : Bool) (q k l : ℕ) → isNan (odd d s q k l) ≡ false
+unfolding isNan odd
+odd-number d s zero k l = refl
+odd-number d s (suc q) k l = refl
+
+units-number : (f : Format) (s : Bool) (q k : ℕ) → isNan (units f s q k) ≡ false
+unfolding units
+units-number f s q k = either-number (ltb (q * 2 ^ k) (2 ^ (low f + suc (emax f)))) _ _ (odd-number (suc (prec f)) s q k (low f)) (inf-number s)
+
+pub round-number : (f : Format) (s : Bool) (a c : ℕ) → isNan (round f s a c) ≡ false
+round-number f s a c = ap isNan (round-is f s a c) ∙ units-number f s (kept (prec f) (a * 2 ^ low f) c) (drop (prec f) (a * 2 ^ low f) c)
+
+sum-number : (f : Format) (s : Bool) (a : ℕ) (t : Bool) (b c : ℕ) → isNan (sum f s a t b c) ≡ false
+unfolding sum
+sum-number f s a t b c =
+    either-number (Bool·beq s t) _ _ (round-number f s (a + b) c)
+    (either-number (ltb a b) _ _ (round-number f t (b - a) c) (round-number f (s && ltb b a) (a - b) c))
+
+pub sub-number : (f : Format) (x y : Float) → T (finiteOf x) → isNan y ≡ false → isNan (sub f x y) ≡ false
+unfolding sub neg add isNan
+sub-number f nan y p q = absurd p
+sub-number f (inf s) y p q = absurd p
+sub-number f (fin s m e) nan p q = absurd (true≢false q)
+sub-number f (fin s m e) (inf t) p q = refl
+sub-number f (fin s m e) (fin t n d) p q = sum-number f s (m * up e * down d) (not t) (n * up d * down e) (down e * down d)
+
+pub div-number : (f : Format) (x y : Float) → T (finiteOf x) → T (finiteOf y) → eq y zeroF ≡ false → isNan (div f x y) ≡ false
+unfolding div eq isNan ofBits
+div-number f nan y p q h = absurd p
+div-number f (inf s) y p q h = absurd p
+div-number f (fin s m e) nan p q h = absurd q
+div-number f (fin s m e) (inf t) p q h = absurd q
+div-number f (fin s m e) (fin true zero d) p q h = absurd (true≢false (sym (simp zero-mul) ∙ h))
+div-number f (fin s m e) (fin false zero d) p q h = absurd (true≢false (sym (simp zero-mul) ∙ h))
+div-number f (fin s m e) (fin t (suc n) d) p q h = rw (eqb·suc-zero n) (round-number f (unlike s t) (m * up e * down d) (suc n * up d * down e))
+
+and-left : (a b : Bool) → (a && b) ≡ true → a ≡ true
+and-left true b h = refl
+and-left false b h = h
+
+-- what is not below a limit above 0 in size is not a zero
+pub not-zero : (y limit : Float) → T (finiteOf y) → T (lt zeroF limit) → lt (sizeOf y) limit ≡ false → eq y zeroF ≡ false
+unfolding le lt eq ofBits
+not-zero nan limit p l h = absurd p
+not-zero (inf s) limit p l h = absurd p
+not-zero (fin s m e) limit p l h = go (eq (fin s m e) zeroF) refl
+  where
+    go : (z : Bool) → eq (fin s m e) zeroF ≡ z → z ≡ false
+    go false k = refl
+    go true k =
+        let a = m * up e * 1 in
+        let b = 0 * 1 * down e in
+        let none : a ≡ b = eqb-true a b (and-left (eqb a b) (Bool·beq s false || eqb a 0) k) in
+        absurd (subst T h (le-lt-chain (fin false m e) zeroF limit (subst⁻¹ T (le-sizes false false a b) (le→leb a b (le-of-eq none))) l))

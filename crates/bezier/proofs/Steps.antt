@@ -1,0 +1,47 @@
+-- The two loops of the search, one turn at a time: what the definition says of n steps, k of which are done. Assumes nothing.
+use Prim.Native.Nat.{ℕ, suc, _+_, _-_, _<_}
+use mathlib.Core.Path.{_≡_, ap}
+use mathlib.Core.Bool.{Bool, true, false}
+use native.Mathlib.Omega.{arith}
+use lib.Ieee.{Float}
+use Rattle.bezier.specs.Curve.{sampleCubicOf}
+use Rattle.bezier.specs.Search.{Found, foundAt, after, cutOf, nearOf, turnOf, bisectOf, bisectionOf, newtonOf}
+use Rattle.bezier.specs.declared.types.Turn.{Turn}
+use Rattle.bezier.specs.declared.types.Turn.the-variants.{Near, Flat, Next}
+use Rattle.bezier.specs.declared.types.Span.{Span}
+
+pub same-u : {f g : Found} → f ≡ g → f .u ≡ g .u
+same-u e = ap (λ (f : Found). f .u) e
+
+left : (n k : ℕ) → k < n → n - k ≡ suc (n - (k + 1))
+left n k h = omega arith
+
+module _ (x1 x2 t : Float) (n k : ℕ) where
+  pub newton-near : (u : Float) → k < n → turnOf x1 x2 t u ≡ Near → newtonOf x1 x2 t (n - k) (turnOf x1 x2 t u) u ≡ after 1 0 (foundAt true u)
+  unfolding newtonOf
+  newton-near u h e = rw (left n k h, e)
+
+  pub newton-flat : (u : Float) → k < n → turnOf x1 x2 t u ≡ Flat → newtonOf x1 x2 t (n - k) (turnOf x1 x2 t u) u ≡ after 1 1 (bisectionOf x1 x2 t)
+  unfolding newtonOf
+  newton-flat u h e = rw (left n k h, e)
+
+  pub newton-next : (u v : Float) → k < n → turnOf x1 x2 t u ≡ Next v → newtonOf x1 x2 t (n - k) (turnOf x1 x2 t u) u ≡ after 1 1 (newtonOf x1 x2 t (n - (k + 1)) (turnOf x1 x2 t v) v)
+  unfolding newtonOf
+  newton-next u v h e = rw (left n k h, e)
+
+  pub newton-spent : (u : Float) (turn : Turn) → n - k ≡ 0 → newtonOf x1 x2 t (n - k) turn u ≡ bisectionOf x1 x2 t
+  unfolding newtonOf
+  newton-spent u turn e = rw e
+
+  pub bisect-near : (s : Span) → k < n → nearOf x1 x2 t (s .u) ≡ true → bisectOf x1 x2 t (n - k) (nearOf x1 x2 t (s .u)) s ≡ after 1 0 (foundAt true (s .u))
+  unfolding bisectOf
+  bisect-near s h e = rw (left n k h, e)
+
+  pub bisect-next : (s r : Span) → k < n → nearOf x1 x2 t (s .u) ≡ false → r ≡ cutOf s (sampleCubicOf x1 x2 (s .u)) t
+      → bisectOf x1 x2 t (n - k) (nearOf x1 x2 t (s .u)) s ≡ after 1 0 (bisectOf x1 x2 t (n - (k + 1)) (nearOf x1 x2 t (r .u)) r)
+  unfolding bisectOf
+  bisect-next s r h e q = rw (left n k h, e, q)
+
+  pub bisect-spent : (s : Span) (near : Bool) → n - k ≡ 0 → bisectOf x1 x2 t (n - k) near s ≡ foundAt false (s .u)
+  unfolding bisectOf
+  bisect-spent s near e = rw e

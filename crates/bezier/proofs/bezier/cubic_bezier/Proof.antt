@@ -1,0 +1,30 @@
+-- `cubic_bezier` meets its contract: each way out is the definition at what the test and the callees said. Assumes nothing.
+use borrow.Author.Needs.{needs}
+use Rattle.bezier.specs.Bezier.{foundOf, cubicBezier}
+use Rattle.bezier.proofs.bezier.cubic_bezier.Statement.{statement}
+use Rattle.bezier.proofs.bezier.cubic_bezier.Tie as tie
+
+at-end : tie.Need-returns
+unfolding cubicBezier
+at-end c = rw (c .if1 .taken)
+
+inside : tie.Need-returns-2
+unfolding cubicBezier foundOf
+inside c =
+    rw (
+      c .before .before .before .before .if1 .left,
+      ← c .before .before .before .clamp01 .ensures,
+      ← c .before .before .clamp012 .ensures,
+      ← c .before .solve .ensures,
+    ) (c .sample-cubic .ensures)
+
+pub cubic-bezier-spec : {M : Type 1} → statement M
+cubic-bezier-spec =
+    tie.close
+    (tie.spec
+    at-end
+    (λ c κs. search needs)
+    (λ c κs. search needs)
+    (λ c κs. search needs)
+    (λ c κs. search needs)
+    inside)

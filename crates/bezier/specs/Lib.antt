@@ -1,0 +1,3 @@
+pub mod Curve
+pub mod Search
+pub mod Bezier

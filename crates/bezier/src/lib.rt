@@ -1,0 +1,7 @@
+// The cubic Bezier easing.
+mod bezier;
+mod curve;
+mod search;
+mod types;
+
+pub use bezier::cubic_bezier;

@@ -1,0 +1,90 @@
+// The search for the u at which the curve's x is t.
+ghost use mathlib.Core.Path.{_≡_};
+ghost use Rattle.bezier.specs.Search.{turnOf, middleOf, cutOf, nearOf, bisectOf, solveOf};
+use crate::curve::sample_cubic;
+use crate::curve::sample_cubic_derivative;
+use crate::types::Span;
+use crate::types::Turn;
+
+// The curve's x is near enough to t below this distance.
+const TOLERANCE: f32 = 0.000001;
+
+// The curve is too flat below this size of its derivative.
+const FLAT: f32 = 0.000001;
+
+fn newton_turn(x1: f32, x2: f32, t: f32, u: f32) -> Turn
+    ensures { λ r. ⌜ r ≡ turnOf x1 x2 t u ⌝ }
+{
+    let x = sample_cubic(x1, x2, u) - t;
+    if math::size(x) < TOLERANCE {
+        return Turn::Near;
+    }
+    let derivative = sample_cubic_derivative(x1, x2, u);
+    if math::size(derivative) < FLAT {
+        return Turn::Flat;
+    }
+    Turn::Next(math::clamp01(u - x / derivative))
+}
+
+// The span from low to high, to be tried in the middle.
+fn middle(low: f32, high: f32) -> Span
+    ensures { λ r. ⌜ r ≡ middleOf low high ⌝ }
+{
+    Span {
+        low,
+        high,
+        u: (low + high) * 0.5,
+    }
+}
+
+// The part of s to go on with, below or above s.u, where the curve is at x.
+fn cut(s: Span, x: f32, t: f32) -> Span
+    ensures { λ r. ⌜ r ≡ cutOf s x t ⌝ }
+{
+    if x < t {
+        middle(s.u, s.high)
+    } else {
+        middle(s.low, s.u)
+    }
+}
+
+fn bisect(x1: f32, x2: f32, t: f32, start: Span) -> f32
+    ensures { λ r. ⌜ r ≡ (bisectOf x1 x2 t 10 (nearOf x1 x2 t (start .u)) start) .u ⌝ }
+{
+    let mut s = start;
+    for k in 0..10u32 {
+        let u = s.u;
+        let x = sample_cubic(x1, x2, u);
+        if math::size(x - t) < TOLERANCE {
+            return u;
+        }
+        s = cut(s, x, t);
+    }
+    s.u
+}
+
+// Newton steps from t; where they do not end near enough, bisections, again from t.
+pub fn solve(x1: f32, x2: f32, t: f32) -> f32
+    ensures { λ r. ⌜ r ≡ (solveOf x1 x2 t) .u ⌝ }
+{
+    let mut u = t;
+    for k in 0..6u32 {
+        match newton_turn(x1, x2, t, u) {
+            Turn::Near => {
+                return u;
+            }
+            Turn::Flat => {
+                break;
+            }
+            Turn::Next(v) => {
+                u = v;
+            }
+        }
+    }
+    let start = Span {
+        low: 0.0,
+        high: 1.0,
+        u: t,
+    };
+    bisect(x1, x2, t, start)
+}
