@@ -1,11 +1,13 @@
--- The two loops of the search, one turn at a time: what the definition says of n steps, k of which are done. Assumes nothing.
+-- What the definition of the search says, one step at a time. Assumes nothing.
 use Prim.Native.Nat.{ℕ, suc, _+_, _-_, _<_}
 use mathlib.Core.Path.{_≡_, ap}
 use mathlib.Core.Bool.{Bool, true, false}
 use native.Mathlib.Omega.{arith}
-use lib.Ieee.{Float}
-use Rattle.bezier.specs.Curve.{sampleCubicOf}
-use Rattle.bezier.specs.Search.{Found, foundAt, after, cutOf, nearOf, turnOf, bisectOf, bisectionOf, newtonOf}
+use lib.Ieee.{Float, lt}
+use Rattle.math.specs.Rounded.{_⊖_, _⊘_}
+use Rattle.math.specs.Range.{clamp01Of, sizeOf}
+use Rattle.bezier.specs.Curve.{sampleCubicOf, sampleCubicDerivativeOf}
+use Rattle.bezier.specs.Search.{Found, foundAt, after, tinyF, cutOf, missOf, nearOf, turnOf, bisectOf, bisectionOf, newtonOf}
 use Rattle.bezier.specs.declared.types.Turn.{Turn}
 use Rattle.bezier.specs.declared.types.Turn.the-variants.{Near, Flat, Next}
 use Rattle.bezier.specs.declared.types.Span.{Span}
@@ -13,6 +15,22 @@ use Rattle.bezier.specs.declared.types.Span.{Span}
 pub same-u : {f g : Found} → f ≡ g → f .u ≡ g .u
 same-u e = ap (λ (f : Found). f .u) e
 
+-- a Newton step, by its tests
+module _ (x1 x2 t u : Float) where
+  pub turn-near : nearOf x1 x2 t u ≡ true → Near ≡ turnOf x1 x2 t u
+  unfolding turnOf
+  turn-near h = rw h
+
+  pub turn-flat : nearOf x1 x2 t u ≡ false → lt (sizeOf (sampleCubicDerivativeOf x1 x2 u)) tinyF ≡ true → Flat ≡ turnOf x1 x2 t u
+  unfolding turnOf
+  turn-flat h k = rw (h, k)
+
+  pub turn-next : (v : Float) → nearOf x1 x2 t u ≡ false → lt (sizeOf (sampleCubicDerivativeOf x1 x2 u)) tinyF ≡ false → v ≡ clamp01Of (u ⊖ missOf x1 x2 t u ⊘ sampleCubicDerivativeOf x1 x2 u)
+      → Next v ≡ turnOf x1 x2 t u
+  unfolding turnOf
+  turn-next v h k e = rw (h, k, e)
+
+-- the loops, where k steps of n are done
 left : (n k : ℕ) → k < n → n - k ≡ suc (n - (k + 1))
 left n k h = omega arith
 
