@@ -5,41 +5,27 @@ use mathlib.Core.Bool.{Bool, true, false, cond}
 use native.Mathlib.Nat.{mul-pos, zero-lt-suc}
 use native.Mathlib.Omega.{arith}
 use lib.Dec.{T, lit≤}
-use lib.Ieee.{Float, nan, inf, fin, binary32, unlike, up, down, mul, lt, le, eq, isNan, ofBits}
+use lib.Ieee.{Float, nan, inf, fin, binary32, unlike, up, down, mul, lt, ofBits}
 use lib.Ieee.Fits.{down-pos}
 use Rattle.math.specs.Rounded.{_⊕_, _⊖_, _⊗_, _⊘_, zeroF, halfF}
-use Rattle.math.specs.Range.{clamp01Of, sizeOf, finiteOf}
+use Rattle.math.specs.Range.{clamp01Of, sizeOf, finiteOf, Within}
+use Rattle.math.proofs.Bounded.{plus, less, zero-within, half-within, one-within}
+use Rattle.math.proofs.Numbers.{finite-number, sub-number, div-number, not-zero}
 use Rattle.math.proofs.Upward.{add-up, mul-up}
-use Rattle.math.proofs.Wholes.{whole-is}
-use Rattle.math.proofs.Sizes.{AtMost, at-most-finite, add-at-most, sub-at-most, round-at-most}
-use Rattle.math.proofs.Ranges.{Within, clamped, one-held, one-within, within-at-most, at-most-within}
+use Rattle.math.proofs.Sizes.{AtMost, at-most-finite, round-at-most}
+use Rattle.math.proofs.Ranges.{clamped, one-held, within-at-most, at-most-within}
 use Rattle.bezier.specs.Curve.{sampleCubicOf, sampleCubicDerivativeOf}
 use Rattle.bezier.specs.Search.{foundAt, tinyF, middleOf, cutOf, nearOf, turnOf, bisectOf, bisectionOf, newtonOf, solveOf}
 use Rattle.bezier.specs.Bezier.{atEnd, foundOf}
 use Rattle.bezier.specs.declared.types.Turn.{Turn}
 use Rattle.bezier.specs.declared.types.Turn.the-variants.{Near, Flat, Next}
 use Rattle.bezier.specs.declared.types.Span.{Span}
-use Rattle.bezier.proofs.Numbers.{sub-number, div-number, not-zero}
 use Rattle.bezier.proofs.Bounds.{sample-at-most, derivative-at-most}
-
-finite-number : (x : Float) → T (finiteOf x) → isNan x ≡ false
-unfolding isNan
-finite-number nan p = absurd p
-finite-number (inf s) p = absurd p
-finite-number (fin s m e) p = refl
 
 within-finite : (x : Float) → Within x → T (finiteOf x)
 within-finite x w = at-most-finite 1 x (within-at-most x w)
 
 -- the middle of two floats from 0 to 1
-zero-within : Within zeroF
-unfolding le lt eq ofBits
-zero-within = (tt, tt)
-
-half-within : Within halfF
-unfolding le lt eq ofBits
-half-within = (tt, tt)
-
 halved : (x : Float) → AtMost 2 x → AtMost 1 (x ⊗ halfF)
 unfolding mul ofBits
 halved nan h = absurd h
@@ -48,7 +34,7 @@ halved (fin s m e) h = round-at-most binary32 1 one-held (unlike s false) (m * u
 
 middle-within : (x y : Float) → Within x → Within y → Within ((x ⊕ y) ⊗ halfF)
 middle-within x y v w =
-    let s : AtMost 2 (x ⊕ y) = add-at-most binary32 2 (whole-is binary32 2 (lit≤ tt)) 1 1 x y (lit≤ tt) (within-at-most x v) (within-at-most y w) in
+    let s : AtMost 2 (x ⊕ y) = plus 2 (lit≤ tt) 1 1 x y (lit≤ tt) (within-at-most x v) (within-at-most y w) in
     at-most-within ((x ⊕ y) ⊗ halfF) (mul-up binary32 (x ⊕ y) halfF (at-most-finite 2 (x ⊕ y) s) (within-finite halfF half-within) (add-up binary32 x y (v .0) (w .0)) (half-within .0)) (halved (x ⊕ y) s)
 
 -- the search, step by step
@@ -98,7 +84,7 @@ module _ (x1 x2 t : Float) (w1 : Within x1) (w2 : Within x2) (wt : Within t) whe
       go false true h = tt
       go false false h =
           let s : AtMost 25 (sampleCubicOf x1 x2 u) = sample-at-most 1 (lit≤ tt) x1 x2 u (within-at-most x1 w1) (within-at-most x2 w2) (within-at-most u w) in
-          let m : AtMost 26 x = sub-at-most binary32 26 (whole-is binary32 26 (lit≤ tt)) 25 1 (sampleCubicOf x1 x2 u) t (lit≤ tt) s (within-at-most t wt) in
+          let m : AtMost 26 x = less 26 (lit≤ tt) 25 1 (sampleCubicOf x1 x2 u) t (lit≤ tt) s (within-at-most t wt) in
           let k : AtMost 60 d = derivative-at-most 1 (lit≤ tt) x1 x2 u (within-at-most x1 w1) (within-at-most x2 w2) (within-at-most u w) in
           let f : T (finiteOf d) = at-most-finite 60 d k in
           clamped (u ⊖ x ⊘ d) (sub-number binary32 u (x ⊘ d) (within-finite u w) (div-number binary32 x d (at-most-finite 26 x m) f (not-zero d tinyF f limit-above-zero h)))

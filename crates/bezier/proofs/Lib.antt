@@ -3,5 +3,4 @@ mod Bounds
 pub mod Counts
 pub mod Examples
 pub mod Inside
-pub mod Numbers
 mod Steps

@@ -1,8 +1,7 @@
 -- How large the curves are at a progress from 0 to 1: each is finite, and at most 134,217,728 in size. Assumes nothing.
 use mathlib.Core.Path.{_≡_, refl}
 use mathlib.Core.Bool.{true, false, false≢true}
-use Prim.Native.Nat.{ℕ, _+_, _*_, _<_, _≤_, max, zero-le}
-use native.Mathlib.Nat.{le-of-eq, mul-one}
+use Prim.Native.Nat.{ℕ, _*_, _<_, _≤_, max}
 use native.Mathlib.Omega.{arith}
 use borrow.Author.Tests.{ltb-true}
 use lib.IntN.{pos}
@@ -12,10 +11,11 @@ use Rattle.math.specs.Rounded.{_⊕_, _⊖_, _⊗_, _⊘_, f32, zeroF, halfF, o
 use Rattle.math.specs.Range.{clamp01Of, maxZeroOf, Within}
 use Rattle.math.specs.Whole.{ceilOf}
 use Rattle.math.proofs.Ceiling.{ceil-at-most}
+use Rattle.math.proofs.Bounded.{plus, less, times, over, shrunk, zero-most, half-most, one-most, two-most, two-least, zero-within}
 use Rattle.math.proofs.Choice.{by-test}
 use Rattle.math.proofs.Wholes.{Is, whole-is}
 use Rattle.math.proofs.Upward.{Up, mul-up, max-zero-up}
-use Rattle.math.proofs.Sizes.{AtMost, AtLeast, is-at-most, is-at-least, at-most-number, at-most-more, at-most-finite, add-at-most, sub-at-most, mul-at-most, div-at-most, one-more}
+use Rattle.math.proofs.Sizes.{AtMost, AtLeast, is-at-most, is-at-least, at-most-number, at-most-more, at-most-finite, add-at-most, mul-at-most, one-more}
 use Rattle.math.proofs.Ranges.{within-at-most, rest, less-one, turned, clamped}
 use Rattle.curves.specs.Powers.{Power, quad, cubic, quart, quint, powi, timesT, leadOf, inPower, outPower, inOutPower}
 use Rattle.curves.specs.Back.{backC1, backC2, backC3, inBack, outBack, inOutBack}
@@ -23,46 +23,12 @@ use Rattle.curves.specs.Bounce.{bounceN1, bounceD1, arcOf, outBounce, in
 use Rattle.curves.specs.Slow.{epsilon, slowPart, edgeOf, midOf, fromOf, slowAt, slowMo}
 use Rattle.curves.specs.Stairs.{stepsOf}
 
--- sums, differences, products and quotients of f32, where the bound is a whole number up to 2 ^ 24
-module _ (n : ℕ) (small : n ≤ 16777216) (p q : ℕ) (x y : Float) where
-  sum : p + q ≤ n → AtMost p x → AtMost q y → AtMost n (x ⊕ y)
-  sum = add-at-most binary32 n (whole-is binary32 n small) p q x y
-
-  less : p + q ≤ n → AtMost p x → AtMost q y → AtMost n (x ⊖ y)
-  less = sub-at-most binary32 n (whole-is binary32 n small) p q x y
-
-  times : p * q ≤ n → AtMost p x → AtMost q y → AtMost n (x ⊗ y)
-  times = mul-at-most binary32 n (whole-is binary32 n small) p q x y
-
-  over : p * q ≤ n → AtMost p x → AtLeast q y → AtMost n (x ⊘ y)
-  over = div-at-most binary32 n (whole-is binary32 n small) p q x y
-
-two-most : AtMost 2 twoF
-unfolding ofBits
-two-most = lit≤ tt
-
-two-least : AtLeast 1 twoF
-unfolding ofBits
-two-least = lit≤ tt
-
-one-most : AtMost 1 oneF
-unfolding ofBits
-one-most = lit≤ tt
-
-zero-most : (n : ℕ) → AtMost n zeroF
-unfolding ofBits
-zero-most n = zero-le
-
 -- powers
-module _ (n : ℕ) (small : n ≤ 16777216) (c t : Float) (h : AtMost n c) (k : AtMost 1 t) where
-  once : AtMost n (c ⊗ t)
-  once = times n small n 1 c t (le-of-eq (mul-one n)) h k
-
 times-t : (p : Power) (n : ℕ) → n ≤ 16777216 → (c t : Float) → AtMost n c → AtMost 1 t → AtMost n (timesT p c t)
-times-t quad n s c t h k = once n s c t h k
-times-t cubic n s c t h k = once n s (c ⊗ t) t (once n s c t h k) k
-times-t quart n s c t h k = once n s (c ⊗ t ⊗ t) t (once n s (c ⊗ t) t (once n s c t h k) k) k
-times-t quint n s c t h k = once n s (c ⊗ t ⊗ t ⊗ t) t (once n s (c ⊗ t ⊗ t) t (once n s (c ⊗ t) t (once n s c t h k) k) k) k
+times-t quad n s c t h k = shrunk n s c t h k
+times-t cubic n s c t h k = shrunk n s (c ⊗ t) t (shrunk n s c t h k) k
+times-t quart n s c t h k = shrunk n s (c ⊗ t ⊗ t) t (shrunk n s (c ⊗ t) t (shrunk n s c t h k) k) k
+times-t quint n s c t h k = shrunk n s (c ⊗ t ⊗ t ⊗ t) t (shrunk n s (c ⊗ t ⊗ t) t (shrunk n s (c ⊗ t) t (shrunk n s c t h k) k) k) k
 
 powi-most : (p : Power) (x : Float) → AtMost 1 x → AtMost 1 (powi p x)
 powi-most p x h = go p
@@ -98,7 +64,7 @@ module _ (p : Power) (t : Float) (w : Within t) where
 
   pub in-out-power : AtMost 16 (inOutPower p t)
   in-out-power =
-      by-test (AtMost 16) (lt t halfF) _ _ (λ h. times-t p 16 (lit≤ tt) (leadOf p ⊗ t) t (once 16 (lit≤ tt) (leadOf p) t (lead-most p) k) k)
+      by-test (AtMost 16) (lt t halfF) _ _ (λ h. times-t p 16 (lit≤ tt) (leadOf p ⊗ t) t (shrunk 16 (lit≤ tt) (leadOf p) t (lead-most p) k) k)
       (λ h. less 16 (lit≤ tt) 1 1 oneF (powi p (neg twoF ⊗ t ⊕ twoF) ⊘ twoF) (lit≤ tt) one-most
       (over 1 (lit≤ tt) 1 1 (powi p (neg twoF ⊗ t ⊕ twoF)) twoF (lit≤ tt) (powi-most p (neg twoF ⊗ t ⊕ twoF) (turned t w h)) two-least))
 
@@ -129,13 +95,13 @@ module _ (t : Float) (w : Within t) where
   out-back =
       let u = t ⊖ oneF in
       let h : AtMost 1 u = less-one t w in
-      sum 6 (lit≤ tt) 4 2 (oneF ⊕ backC3 ⊗ u ⊗ u ⊗ u) (backC1 ⊗ u ⊗ u) (lit≤ tt) (sum 4 (lit≤ tt) 1 3 oneF (backC3 ⊗ u ⊗ u ⊗ u) (lit≤ tt) one-most (cubed u h)) (squared u h)
+      plus 6 (lit≤ tt) 4 2 (oneF ⊕ backC3 ⊗ u ⊗ u ⊗ u) (backC1 ⊗ u ⊗ u) (lit≤ tt) (plus 4 (lit≤ tt) 1 3 oneF (backC3 ⊗ u ⊗ u ⊗ u) (lit≤ tt) one-most (cubed u h)) (squared u h)
 
   twice : AtMost 2 (twoF ⊗ t)
   twice = times 2 (lit≤ tt) 2 1 twoF t (lit≤ tt) two-most (within-at-most t w)
 
   four : AtMost 4 (backC2 ⊕ oneF)
-  four = sum 4 (lit≤ tt) 3 1 backC2 oneF (lit≤ tt) c2-most one-most
+  four = plus 4 (lit≤ tt) 3 1 backC2 oneF (lit≤ tt) c2-most one-most
 
   low-half : AtMost 306 (powi quad (twoF ⊗ t) ⊗ ((backC2 ⊕ oneF) ⊗ twoF ⊗ t ⊖ backC2) ⊘ twoF)
   low-half =
@@ -144,7 +110,7 @@ module _ (t : Float) (w : Within t) where
       over 306 (lit≤ tt) 44 1 (x ⊗ x ⊗ (y ⊖ backC2)) twoF (lit≤ tt)
       (times 44 (lit≤ tt) 4 11 (x ⊗ x) (y ⊖ backC2) (lit≤ tt) (times 4 (lit≤ tt) 2 2 x x (lit≤ tt) twice twice)
       (less 11 (lit≤ tt) 8 3 y backC2 (lit≤ tt)
-      (once 8 (lit≤ tt) ((backC2 ⊕ oneF) ⊗ twoF) t (times 8 (lit≤ tt) 4 2 (backC2 ⊕ oneF) twoF (lit≤ tt) four two-most) (within-at-most t w)) c2-most))
+      (shrunk 8 (lit≤ tt) ((backC2 ⊕ oneF) ⊗ twoF) t (times 8 (lit≤ tt) 4 2 (backC2 ⊕ oneF) twoF (lit≤ tt) four two-most) (within-at-most t w)) c2-most))
       two-least
 
   high-half : AtMost 306 ((powi quad (twoF ⊗ t ⊖ twoF) ⊗ ((backC2 ⊕ oneF) ⊗ (twoF ⊗ t ⊖ twoF) ⊕ backC2) ⊕ twoF) ⊘ twoF)
@@ -153,9 +119,9 @@ module _ (t : Float) (w : Within t) where
       let y = (backC2 ⊕ oneF) ⊗ x ⊕ backC2 in
       let h : AtMost 4 x = less 4 (lit≤ tt) 2 2 (twoF ⊗ t) twoF (lit≤ tt) twice two-most in
       over 306 (lit≤ tt) 306 1 (x ⊗ x ⊗ y ⊕ twoF) twoF (lit≤ tt)
-      (sum 306 (lit≤ tt) 304 2 (x ⊗ x ⊗ y) twoF (lit≤ tt)
+      (plus 306 (lit≤ tt) 304 2 (x ⊗ x ⊗ y) twoF (lit≤ tt)
       (times 304 (lit≤ tt) 16 19 (x ⊗ x) y (lit≤ tt) (times 16 (lit≤ tt) 4 4 x x (lit≤ tt) h h)
-      (sum 19 (lit≤ tt) 16 3 ((backC2 ⊕ oneF) ⊗ x) backC2 (lit≤ tt) (times 16 (lit≤ tt) 4 4 (backC2 ⊕ oneF) x (lit≤ tt) four h) c2-most))
+      (plus 19 (lit≤ tt) 16 3 ((backC2 ⊕ oneF) ⊗ x) backC2 (lit≤ tt) (times 16 (lit≤ tt) 4 4 (backC2 ⊕ oneF) x (lit≤ tt) four h) c2-most))
       two-most)
       two-least
 
@@ -173,7 +139,7 @@ n1-most = lit≤ tt
 
 arc : (u h : Float) → AtMost 6 u → AtMost 1 h → AtMost 289 (arcOf u h)
 arc u h a b =
-    sum 289 (lit≤ tt) 288 1 (bounceN1 ⊗ u ⊗ u) h (lit≤ tt) (times 288 (lit≤ tt) 48 6 (bounceN1 ⊗ u) u (lit≤ tt) (times 48 (lit≤ tt) 8 6 bounceN1 u (lit≤ tt) n1-most a) a) b
+    plus 289 (lit≤ tt) 288 1 (bounceN1 ⊗ u ⊗ u) h (lit≤ tt) (times 288 (lit≤ tt) 48 6 (bounceN1 ⊗ u) u (lit≤ tt) (times 48 (lit≤ tt) 8 6 bounceN1 u (lit≤ tt) n1-most a) a) b
 
 -- around a middle of m parts of 2.75
 around : (t m h : Float) → AtMost 3 t → AtMost 3 m → AtMost 1 h → AtMost 289 (arcOf (t ⊖ m ⊘ bounceD1) h)
@@ -202,7 +168,7 @@ module _ (t : Float) (w : Within t) where
       (λ h. over 290 (lit≤ tt) 290 1 (oneF ⊖ outBounce (oneF ⊖ twoF ⊗ t)) twoF (lit≤ tt)
       (less 290 (lit≤ tt) 1 289 oneF (outBounce (oneF ⊖ twoF ⊗ t)) (lit≤ tt) one-most (bounce-most (oneF ⊖ twoF ⊗ t) (less 3 (lit≤ tt) 1 2 oneF (twoF ⊗ t) (lit≤ tt) one-most (twice t w)))) two-least)
       (λ h. over 290 (lit≤ tt) 290 1 (oneF ⊕ outBounce (twoF ⊗ t ⊖ oneF)) twoF (lit≤ tt)
-      (sum 290 (lit≤ tt) 1 289 oneF (outBounce (twoF ⊗ t ⊖ oneF)) (lit≤ tt) one-most (bounce-most (twoF ⊗ t ⊖ oneF) (less 3 (lit≤ tt) 2 1 (twoF ⊗ t) oneF (lit≤ tt) (twice t w) one-most))) two-least)
+      (plus 290 (lit≤ tt) 1 289 oneF (outBounce (twoF ⊗ t ⊖ oneF)) (lit≤ tt) one-most (bounce-most (twoF ⊗ t ⊖ oneF) (less 3 (lit≤ tt) 2 1 (twoF ⊗ t) oneF (lit≤ tt) (twice t w) one-most))) two-least)
 
   pub custom-bounce-most : (strength : Float) → isNan strength ≡ false → AtMost 290 (customBounce t strength)
   custom-bounce-most strength p =
@@ -210,14 +176,10 @@ module _ (t : Float) (w : Within t) where
       let h : Within s = clamped strength p in
       by-test (AtMost 290) (le t zeroF) _ _ (λ _. zero-most 290)
       (λ _. by-test (AtMost 290) (le oneF t) _ _ (λ _. at-most-more 1 290 oneF (lit≤ tt) one-most)
-      (λ _. sum 290 (lit≤ tt) 1 289 (t ⊗ (oneF ⊖ s)) (outBounce t ⊗ s) (lit≤ tt) (once 1 (lit≤ tt) t (oneF ⊖ s) (within-at-most t w) (within-at-most (oneF ⊖ s) (rest s h)))
-      (once 289 (lit≤ tt) (outBounce t) s out-bounce (within-at-most s h))))
+      (λ _. plus 290 (lit≤ tt) 1 289 (t ⊗ (oneF ⊖ s)) (outBounce t ⊗ s) (lit≤ tt) (shrunk 1 (lit≤ tt) t (oneF ⊖ s) (within-at-most t w) (within-at-most (oneF ⊖ s) (rest s h)))
+      (shrunk 289 (lit≤ tt) (outBounce t) s out-bounce (within-at-most s h))))
 
 -- SlowMo
-half-most : AtMost 1 halfF
-unfolding ofBits
-half-most = lit≤ tt
-
 -- above 2 ^ -23
 edge-least : (x : Float) (n : ℕ) → AtMost n x → lt epsilon x ≡ true → AtLeast 8388608 x
 unfolding lt ofBits
@@ -248,10 +210,10 @@ part-most t lr from to mid edge a b c d e g =
     by-test (AtMost 134217728) (lt t from) _ _ (λ _. mul-at-most binary32 134217728 held-27 1 16777216 t edge (lit≤ tt) a g)
     (λ _. by-test (AtMost 134217728) (lt to t) _ _
     (λ _. add-at-most binary32 134217728 held-27 33554432 67108864 (from ⊗ edge ⊕ lr ⊗ mid) ((t ⊖ to) ⊗ edge) (lit≤ tt)
-    (add-at-most binary32 33554432 held-25 16777216 1 (from ⊗ edge) (lr ⊗ mid) (lit≤ tt) ramp (once 1 (lit≤ tt) lr mid b e))
+    (add-at-most binary32 33554432 held-25 16777216 1 (from ⊗ edge) (lr ⊗ mid) (lit≤ tt) ramp (shrunk 1 (lit≤ tt) lr mid b e))
     (mul-at-most binary32 67108864 held-26 3 16777216 (t ⊖ to) edge (lit≤ tt) (less 3 (lit≤ tt) 1 2 t to (lit≤ tt) a d) g))
     (λ _. add-at-most binary32 134217728 held-27 16777216 2 (from ⊗ edge) ((t ⊖ from) ⊗ mid) (lit≤ tt) ramp
-    (once 2 (lit≤ tt) (t ⊖ from) mid (less 2 (lit≤ tt) 1 1 t from (lit≤ tt) a c) e)))
+    (shrunk 2 (lit≤ tt) (t ⊖ from) mid (less 2 (lit≤ tt) 1 1 t from (lit≤ tt) a c) e)))
 
 module _ (lr p : Float) (w : Within lr) (u : Up p) (h : AtMost 1024 p) where
   a : AtMost 1 lr
@@ -263,8 +225,8 @@ module _ (lr p : Float) (w : Within lr) (u : Up p) (h : AtMost 1024 p) where
   mid-most : AtMost 1 (midOf lr p)
   mid-most =
       let z = p ⊗ (oneF ⊖ lr) in
-      let k : AtMost 1024 z = once 1024 (lit≤ tt) p (oneF ⊖ lr) h b in
-      let l : AtMost 1025 (oneF ⊕ z) = sum 1025 (lit≤ tt) 1 1024 oneF z (lit≤ tt) one-most k in
+      let k : AtMost 1024 z = shrunk 1024 (lit≤ tt) p (oneF ⊖ lr) h b in
+      let l : AtMost 1025 (oneF ⊕ z) = plus 1025 (lit≤ tt) 1 1024 oneF z (lit≤ tt) one-most k in
       over 1 (lit≤ tt) 1 1 oneF (oneF ⊕ z) (lit≤ tt) one-most
       (one-more binary32 1025 z (mul-up binary32 p (oneF ⊖ lr) (at-most-finite 1024 p h) (at-most-finite 1 (oneF ⊖ lr) b) u (rest lr w .0)) l (at-most-more 1024 1025 z (lit≤ tt) k))
 
@@ -272,14 +234,14 @@ module _ (lr p : Float) (w : Within lr) (u : Up p) (h : AtMost 1024 p) where
   edge-most =
       by-test (AtMost 16777216) (lt epsilon (oneF ⊖ lr)) _ _
       (λ k. over 16777216 (lit≤ tt) 2 8388608 (oneF ⊖ midOf lr p ⊗ lr) (oneF ⊖ lr) (lit≤ tt)
-      (less 2 (lit≤ tt) 1 1 oneF (midOf lr p ⊗ lr) (lit≤ tt) one-most (once 1 (lit≤ tt) (midOf lr p) lr mid-most a)) (edge-least (oneF ⊖ lr) 1 b k))
+      (less 2 (lit≤ tt) 1 1 oneF (midOf lr p ⊗ lr) (lit≤ tt) one-most (shrunk 1 (lit≤ tt) (midOf lr p) lr mid-most a)) (edge-least (oneF ⊖ lr) 1 b k))
       (λ k. at-most-more 1 16777216 oneF (lit≤ tt) one-most)
 
   slow-at-most : (t : Float) → Within t → AtMost 134217728 (slowAt t lr p)
   slow-at-most t v =
-      let c : AtMost 1 (fromOf lr) = once 1 (lit≤ tt) (oneF ⊖ lr) halfF b half-most in
+      let c : AtMost 1 (fromOf lr) = shrunk 1 (lit≤ tt) (oneF ⊖ lr) halfF b half-most in
       by-test (AtMost 134217728) (le oneF lr) _ _ (λ _. at-most-more 1 134217728 t (lit≤ tt) (within-at-most t v))
-      (λ _. part-most t lr (fromOf lr) (fromOf lr ⊕ lr) (midOf lr p) (edgeOf lr (midOf lr p)) (within-at-most t v) a c (sum 2 (lit≤ tt) 1 1 (fromOf lr) lr (lit≤ tt) c a) mid-most edge-most)
+      (λ _. part-most t lr (fromOf lr) (fromOf lr ⊕ lr) (midOf lr p) (edgeOf lr (midOf lr p)) (within-at-most t v) a c (plus 2 (lit≤ tt) 1 1 (fromOf lr) lr (lit≤ tt) c a) mid-most edge-most)
 
 pub slow-mo-most : (t ratio power : Float) → Within t → isNan ratio ≡ false → AtMost 1024 power → AtMost 134217728 (slowMo t ratio power)
 slow-mo-most t ratio power w p h =
@@ -288,10 +250,6 @@ slow-mo-most t ratio power w p h =
     (λ _. slow-at-most (clamp01Of ratio) (maxZeroOf power) (clamped ratio p) (max-zero-up power) (by-test (AtMost 1024) (lt zeroF power) power zeroF (λ _. h) (λ _. zero-most 1024)) t w))
 
 -- Steps, from 0 to 1
-zero-within : Within zeroF
-unfolding le lt eq ofBits
-zero-within = (tt, tt)
-
 pub steps-within : (t : Float) (n : ℕ) → Within t → n ≤ 65536 → Within (stepsOf t n)
 steps-within t n w l =
     let c = ofInt binary32 (pos (max n 1)) in

@@ -2,30 +2,22 @@
 use mathlib.Core.Path.{_≡_, refl}
 use mathlib.Core.Bool.{Bool, true, false, cond}
 use Prim.Native.Nat.{ℕ, _*_, _≤_}
-use lib.IntN.{pos}
 use lib.Dec.{lit≤}
-use lib.Ieee.{Float, binary32, lt, neg, ofInt, ofBits}
+use lib.Ieee.{Float, binary32, lt, neg}
 use lib.Ieee.Fits.{sub-fits}
 use Rattle.math.specs.Rounded.{_⊕_, _⊖_, _⊗_, _⊘_, halfF, oneF, twoF}
 use Rattle.math.specs.Range.{Within}
-use Rattle.math.proofs.Ranges.{one-within, within-at-most, rest, under-root, less-one, doubled, turned}
-use Rattle.math.proofs.Sizes.{AtMost, AtLeast, add-at-most, div-at-most}
-use Rattle.math.proofs.Wholes.{Is, whole-is}
+use Rattle.math.proofs.Bounded.{plus, over, one-most, two-least}
+use Rattle.math.proofs.Ranges.{within-at-most, rest, under-root, less-one, doubled, turned}
+use Rattle.math.proofs.Sizes.{AtMost}
 use Rattle.curves.specs.Circ.{arcOf, inCirc, outCirc, inOutCirc}
 use Rattle.curves.proofs.Roots.{sqrt-within}
 
 arc-within : (y : Float) → AtMost 1 y → Within (arcOf y)
 arc-within y h = sqrt-within (oneF ⊖ y ⊗ y) (sub-fits binary32 oneF (y ⊗ y)) (under-root y h)
 
-two-held : Is (ofInt binary32 (pos 2)) 2
-two-held = whole-is binary32 2 (lit≤ tt)
-
-two-least : AtLeast 1 twoF
-unfolding ofBits
-two-least = lit≤ tt
-
 halved : (p : ℕ) (x : Float) → p * 1 ≤ 2 → AtMost p x → AtMost 2 (x ⊘ twoF)
-halved p x l h = div-at-most binary32 2 two-held p 1 x twoF l h two-least
+halved p x l h = over 2 (lit≤ tt) p 1 x twoF l h two-least
 
 pub circ-at-most : (t : Float) → Within t → AtMost 1 (inCirc t) × AtMost 1 (outCirc t) × AtMost 2 (inOutCirc t)
 unfolding inCirc outCirc inOutCirc
@@ -39,4 +31,4 @@ circ-at-most t w = (
     go true h = halved 1 (oneF ⊖ arcOf (twoF ⊗ t)) (lit≤ tt) (within-at-most (oneF ⊖ arcOf (twoF ⊗ t)) (rest (arcOf (twoF ⊗ t)) (arc-within (twoF ⊗ t) (doubled t w h))))
     go false h =
         let y = neg twoF ⊗ t ⊕ twoF in
-        halved 2 (arcOf y ⊕ oneF) (lit≤ tt) (add-at-most binary32 2 two-held 1 1 (arcOf y) oneF (lit≤ tt) (within-at-most (arcOf y) (arc-within y (turned t w h))) (within-at-most oneF one-within))
+        halved 2 (arcOf y ⊕ oneF) (lit≤ tt) (plus 2 (lit≤ tt) 1 1 (arcOf y) oneF (lit≤ tt) (within-at-most (arcOf y) (arc-within y (turned t w h))) one-most)

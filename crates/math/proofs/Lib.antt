@@ -1,8 +1,10 @@
+pub mod Bounded
 pub mod Ceiling
 pub mod Choice
 mod Examples
 mod Fitting
 mod Form
+pub mod Numbers
 pub mod Order
 pub mod Ranges
 pub mod Sizes

@@ -15,6 +15,7 @@ use Rattle.math.specs.Range.{clampOf, clamp01Of, Within}
 use Rattle.math.proofs.Order.{le-sizes, not-lt-of-le, le-of-not-lt, le-numbers, le-self}
 use Rattle.math.proofs.Upward.{Up, up-none, sub-up, square-up}
 use Rattle.math.proofs.Sizes.{AtMost, up-to, round-neg, round-at-most, at-most-finite, mul-at-most, sub-near, at-most-either}
+use Rattle.math.proofs.Bounded.{one-within}
 use Rattle.math.proofs.Wholes.{Is, whole-is, fraction-le}
 
 -- clamp
@@ -56,10 +57,6 @@ at-most-within nan u h = absurd h
 at-most-within (inf s) u h = absurd h
 at-most-within (fin false m e) u h = (u, subst⁻¹ T (fraction-le oneF 1 m e one-is) (le→leb (m * up e) (1 * down e) h))
 at-most-within (fin true m e) u h = (u, subst⁻¹ T (le-sizes true false (m * up e * 1) (1 * 1 * down e)) tt)
-
-pub one-within : Within oneF
-unfolding le lt eq ofBits
-one-within = (tt, tt)
 
 -- 1 - y * y, which is what a square root is taken of
 pub square : (y : Float) → AtMost 1 y → Within (y ⊗ y)

@@ -74,3 +74,9 @@ not-zero (fin s m e) limit p l h = go (eq (fin s m e) zeroF) refl
         let b = 0 * 1 * down e in
         let none : a ≡ b = eqb-true a b (and-left (eqb a b) (Bool·beq s false || eqb a 0) k) in
         absurd (subst T h (le-lt-chain (fin false m e) zeroF limit (subst⁻¹ T (le-sizes false false a b) (le→leb a b (le-of-eq none))) l))
+
+pub finite-number : (x : Float) → T (finiteOf x) → isNan x ≡ false
+unfolding isNan
+finite-number nan p = absurd p
+finite-number (inf s) p = absurd p
+finite-number (fin s m e) p = refl
