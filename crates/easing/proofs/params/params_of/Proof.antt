@@ -26,4 +26,4 @@ params-of-spec =
     (λ c. simp (c .before .e2 .given .1))
     (λ c. simp (c .before .e3 .given .1))
     (λ c. simp (c .before .e4 .given .1))
-    (λ c. sym (told _ .plain (not-true _ (numbered (λ n. not (among four n)) others _ tt (c .match .keys5))))))
+    (λ c. sym (told (c .before .args .e) .plain (not-true _ (numbered (λ n. not (among four n)) others (c .before .args .e) tt (c .match .keys5))))))

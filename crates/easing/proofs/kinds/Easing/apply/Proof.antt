@@ -8,7 +8,7 @@ use Rattle.math.proofs.Ranges.{clamped}
 use Rattle.easing.specs.Kinds.{curveOf}
 use Rattle.easing.specs.Params.{paramsOf}
 use Rattle.easing.proofs.Tags.{among, twelve, told, numbered}
-use Rattle.easing.proofs.Answers.{no-number, not-supplied, plain, with-params}
+use Rattle.easing.proofs.Answering.{no-number, not-supplied, plain, with-params}
 use Rattle.easing.proofs.kinds.Easing.apply.Statement.{statement}
 use Rattle.easing.proofs.kinds.Easing.apply.Tie as tie
 
@@ -113,4 +113,4 @@ apply-spec =
     (λ c. with-params _ _ _ (c .before .before .before .before .before .before .before .before .before .is-nan .ensures) (c .before .before .before .before .before .before .before .before .if1 .left) _ (c .before .before .before .before .before .before .before .clamp01 .ensures) _ (c .before .before .before .before .before .self2 .given .1) _ _ (c .before .steps .ensures) _ _ _ (c .before .before .before .params-of2 .ensures) (c .before .before .within2 .ensures) (c .limited2 .ensures) (λ fine. refl))
     (λ c. with-params _ _ _ (c .before .before .before .before .before .before .before .before .before .is-nan .ensures) (c .before .before .before .before .before .before .before .before .if1 .left) _ (c .before .before .before .before .before .before .before .clamp01 .ensures) _ (c .before .before .before .before .before .self3 .given .1) _ _ (c .before .slow-mo .ensures) _ _ _ (c .before .before .before .params-of3 .ensures) (c .before .before .within3 .ensures) (c .limited3 .ensures) (λ fine. refl))
     (λ c. with-params _ _ _ (c .before .before .before .before .before .before .before .before .before .is-nan .ensures) (c .before .before .before .before .before .before .before .before .if1 .left) _ (c .before .before .before .before .before .before .before .clamp01 .ensures) _ (c .before .before .before .before .before .self4 .given .1) _ _ (c .before .custom-bounce .ensures) _ _ _ (c .before .before .before .params-of4 .ensures) (c .before .before .within4 .ensures) (c .limited4 .ensures) (λ fine. refl))
-    (λ c. not-supplied _ _ _ (c .before .before .before .is-nan .ensures) (c .before .before .if1 .left) (told _ .supplied ∙ ap not (numbered (among twelve) twelve _ tt (c .match .keys27)))))
+    (λ c. not-supplied _ _ _ (c .before .before .before .is-nan .ensures) (c .before .before .if1 .left) (told (c .before .before .before .before .args .self) .supplied ∙ ap not (numbered (among twelve) twelve (c .before .before .before .before .args .self) tt (c .match .keys27)))))

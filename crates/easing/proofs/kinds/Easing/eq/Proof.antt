@@ -1,6 +1,6 @@
 -- `eq` meets its contract, by what its steps ensure. Assumes nothing.
 use borrow.Author.Needs.{needs}
-use Rattle.easing.proofs.Answers.{eq-not-supplied, eq-parameter, eq-compared}
+use Rattle.easing.proofs.Answering.{eq-not-supplied, eq-parameter, eq-compared}
 use Rattle.easing.proofs.kinds.Easing.eq.Statement.{statement}
 use Rattle.easing.proofs.kinds.Easing.eq.Tie as tie
 

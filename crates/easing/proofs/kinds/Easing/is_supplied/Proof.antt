@@ -14,5 +14,5 @@ pub is-supplied-spec : {M : Type 1} → statement M
 is-supplied-spec =
     tie.close
     (tie.spec
-    (λ c. sym (told _ .supplied ∙ ap not (numbered (among twelve) twelve _ tt (c .match .keys1))))
-    (λ c. sym (told _ .supplied ∙ numbered (λ n. not (among twelve n)) others _ tt (c .match .keys2))))
+    (λ c. sym (told (c .before .args .self) .supplied ∙ ap not (numbered (among twelve) twelve (c .before .args .self) tt (c .match .keys1))))
+    (λ c. sym (told (c .before .args .self) .supplied ∙ numbered (λ n. not (among twelve n)) others (c .before .args .self) tt (c .match .keys2))))

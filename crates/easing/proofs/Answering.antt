@@ -41,9 +41,9 @@ module _ (e : Easing) (t : Float) (b : Bool) (eb : b ≡ isNan t) where
       unfolding applyOf
       plain ep ec = rw (← eb, h, ex, ep, none-within, ← eu, ec, ev)
 
-      pub with-params : (p : Params) (fine : Bool) (r : Eased) → p ≡ paramsOf e → fine ≡ withinOf p → r ≡ limitedOf fine v → ((fine : Bool) → easedAt (curveOf x) fine u ≡ limitedOf fine w) → r ≡ applyOf e t
+      pub with-params : (p : Params) (fine : Bool) (r : Eased) → p ≡ paramsOf x → fine ≡ withinOf p → r ≡ limitedOf fine v → ((fine : Bool) → easedAt (curveOf x) fine u ≡ limitedOf fine w) → r ≡ applyOf e t
       unfolding applyOf
-      with-params p fine r ep ef er ec = er ∙ ap (limitedOf fine) ev ∙ sym (ec fine) ∙ rw (← eb, h, ← ep, ← ef, ← eu, ex)
+      with-params p fine r ep ef er ec = er ∙ ap (limitedOf fine) ev ∙ sym (ec fine) ∙ rw (← eb, h, ex, ← ep, ← ef, ← eu)
 
 -- s and z say whether the two are supplied
 module _ (x y : Easing) (s z : Bool) (es : s ≡ suppliedOf x) (ez : z ≡ suppliedOf y) where
