@@ -14,7 +14,7 @@ use Rattle.easing.specs.declared.answers.Eased.the-variants.{Value, Refu
 use Rattle.easing.specs.declared.answers.Equality.the-variants as equality
 use Rattle.easing.specs.Kinds.{numberOf, curveOf, isSome, suppliedOf}
 use Rattle.easing.specs.Params.{noParams, paramsOf, withinOf, equalOf}
-use Rattle.easing.specs.Apply.{limitedOf, easedAt, applyOf, sameOf, eqOf}
+use Rattle.easing.specs.Apply.{limitedOf, easedAt, applyOf, eqOf}
 
 pub none-within : withinOf noParams ≡ true
 unfolding withinOf le lt eq ofBits

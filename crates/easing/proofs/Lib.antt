@@ -1,2 +1,4 @@
 pub mod Answering
+pub mod Ends
+pub mod Finite
 pub mod Tags

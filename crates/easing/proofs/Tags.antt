@@ -7,7 +7,7 @@ use mathlib.Core.Logic.{⊎-elim}
 use lib.Dec.{T, eqb}
 use types.Run.{OneOf}
 use denote.Enum.Declared.{tagOf}
-use Rattle.easing.specs.Kinds.{numberOf, curveOf, suppliedOf}
+use Rattle.easing.specs.Kinds.{numberOf, suppliedOf}
 use Rattle.easing.specs.Params.{noParams, paramsOf}
 use Rattle.easing.proofs.kinds.Easing.{the-type}
 use Rattle.easing.specs.declared.kinds.Easing.{Easing}

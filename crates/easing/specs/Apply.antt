@@ -1,5 +1,5 @@
 -- Document 01, "Easing" and "Refusal numbers": what an easing answers at a progress, and whether two easings are equal.
-use mathlib.Core.Bool.{Bool, true, false, _&&_, cond}
+use mathlib.Core.Bool.{Bool, _&&_, cond}
 use mathlib.Core.Option.{Option, none, some}
 use lib.Dec.{eqb}
 use lib.Ieee.{Float, isNan}

@@ -14,7 +14,7 @@ use lib.Ieee.Back.{round-whole}
 use lib.Pow.{pow-mono}
 use lib.Ieee.Order.{drop, kept, round-mono}
 use Rattle.math.specs.Rounded.{zeroF, oneF}
-use Rattle.math.specs.Range.{finiteOf}
+use Rattle.math.specs.Range.{finiteOf, sizeOf}
 use Rattle.math.proofs.Order.{le-sizes, le-chain, times-none}
 use Rattle.math.proofs.Upward.{Up, up-none, none-of, round-up}
 use Rattle.math.proofs.Wholes.{Is, le-is, fraction-le, le-fraction}
@@ -57,6 +57,15 @@ up-to n (inf false) (inf t) v h k = absurd v
 up-to n (inf false) (fin t o d) v h k = absurd k
 up-to n (fin true m e) z v h k = subst⁻¹ (λ (a : ℕ). a ≤ n * down e) (up-none m e h) zero-le
 up-to n (fin false m e) z v h k = leb→le (m * up e) (n * down e) (subst T (fraction-le z n m e v) k)
+
+-- a size that is not above a whole number n
+pub size-at-most : (n : ℕ) (x z : Float) → Is z n → T (le (sizeOf x) z) → AtMost n x
+unfolding le lt eq
+size-at-most n nan z v h = absurd h
+size-at-most n (inf s) nan v h = absurd v
+size-at-most n (inf s) (inf t) v h = absurd v
+size-at-most n (inf s) (fin t o d) v h = absurd h
+size-at-most n (fin s m e) z v h = leb→le (m * up e) (n * down e) (subst T (fraction-le z n m e v) h)
 
 -- not below a u that is 1
 zero-is : Is zeroF 0
