@@ -2,7 +2,7 @@
 use mathlib.Core.Path.{_≡_, refl, sym, ap, _∙_, subst⁻¹}
 use mathlib.Core.Bool.{Bool, true, false, cond, true≢false, false≢true}
 use Prim.Native.Nat.{ℕ, suc, _+_, _-_, _*_, _/_, _%_, _^_, _<_, _≤_, max}
-use native.Mathlib.Nat.{one-mul, div-add-mod', le-trans, le-of-eq, lt-of-lt-of-le, le-refl, le-of-suc-le-suc, le-of-mul-le-mul-right, mul-lt-mul-of-pos-right, mul-le-mul-right, mul-comm, mul-assoc, suc-mul, div-mul-le-self, div-lt-iff-lt-mul}
+use native.Mathlib.Nat.{one-mul, div-add-mod', le-trans, le-of-eq, lt-of-lt-of-le, le-refl, le-of-mul-le-mul-right, mul-lt-mul-of-pos-right, mul-le-mul-right, mul-comm, mul-assoc, div-mul-le-self, div-lt-iff-lt-mul}
 use native.Mathlib.Numerals.{add-one}
 use native.Mathlib.Omega.{arith}
 use lib.Pow.{pow-pos}
@@ -18,7 +18,7 @@ use lib.Ieee.Positive.{positive-of-value, values-of-le}
 use Rattle.math.specs.Rounded.{_⊗_, _⊘_, zeroF, oneF}
 use Rattle.math.specs.Range.{clamp01Of, Within}
 use Rattle.math.specs.Whole.{ceilOf}
-use Rattle.math.proofs.Ceiling.{up-more, up-same}
+use Rattle.math.proofs.Ceiling.{up-more, up-same, part-most, ceiling-most}
 use Rattle.math.proofs.Order.{lt-le, eq-self, lt-not-eq, le-numbers, le-of-not-lt, lt-le-chain, le-lt-chain}
 use Rattle.math.proofs.Wholes.{Is, whole-is, div-is}
 use Rattle.math.proofs.Upward.{round-up}
@@ -121,16 +121,10 @@ module _ (n : ℕ) (N : 0 < n) (l : n ≤ 65536) (c : Float) (v : Is c n) where
       s = div-add-mod' a d
 
       top : (a + (d - 1)) / d ≤ n
-      top = le-of-suc-le-suc (div-lt-iff-lt-mul D .1 (room a d (n * d) (suc n * d) D h (suc-mul n d)))
-        where
-          room : (a d b c : ℕ) → 0 < d → a ≤ b → c ≡ b + d → a + (d - 1) < c
-          room a d b c D h e = omega arith
+      top = ceiling-most n a d D h
 
       low : a / d ≤ n
-      low = le-of-suc-le-suc (div-lt-iff-lt-mul D .1 (room a d (n * d) (suc n * d) D h (suc-mul n d)))
-        where
-          room : (a d b c : ℕ) → 0 < d → a ≤ b → c ≡ b + d → a < c
-          room a d b c D h e = omega arith
+      low = part-most n a d D h
 
       go : (b : Bool) → eqb (a % d) 0 ≡ b → eq (clamp01Of (ofInt binary32 (pos ((a + (d - 1)) / d)) ⊘ c)) (ofInt binary32 (pos (a / d)) ⊘ c) ≡ b
       go true e = same-step ((a + (d - 1)) / d) (a / d) top low (up-same a d D (let z : a % d ≡ 0 = eqb-true (a % d) 0 e in omega (arith, s)))

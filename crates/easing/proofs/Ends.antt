@@ -1,13 +1,13 @@
 -- Each supplied kind, at its parameters in `all_named`, is 0 at 0 and 1 at 1; stated over the list, so that no kind can be left out. Assumes nothing.
 use Prim.Native.Nat.{ℕ}
-use mathlib.Core.Path.{_≡_, refl, sym, subst}
+use mathlib.Core.Path.{_≡_, refl}
 use mathlib.Core.Bool.{Bool, true, false, _&&_, cond}
-use mathlib.Core.List.{List, [], _∷_, map, List·Memᴰ, List·Memᴰ·not-nil, List·Memᴰ·cases-cons}
-use mathlib.Core.Logic.{⊎-elim}
+use mathlib.Core.List.{List, [], _∷_, map, List·Memᴰ}
 use lib.Dec.{T}
 use lib.ListN.{length}
 use lib.Ieee.{Float, binary32, add, sub, mul, div, neg, lt, le, eq, isNan, ofInt, ofBits, toBits}
 use Rattle.math.specs.Rounded.{zeroF, oneF}
+use Rattle.math.proofs.Lists.{every, every-member}
 use Rattle.curves.specs.Root.{rootFrom, sqrtOf}
 use Rattle.curves.specs.Circ.{inCirc, outCirc, inOutCirc}
 use Rattle.bezier.specs.Bezier.{foundOf, cubicBezier}
@@ -31,28 +31,12 @@ is (Refused r) v = false
 abbrev pub ended : Easing → Bool
 ended e = is (applyOf e zeroF) zeroF && is (applyOf e oneF) oneF
 
-abbrev every : List Easing → Bool
-every [] = true
-every (e ∷ es) = ended e && every es
-
-first : (a b : Bool) → T (a && b) → a ≡ true
-first true b h = refl
-first false b h = absurd h
-
-rest : (a b : Bool) → T (a && b) → T b
-rest true b h = h
-rest false b h = absurd h
-
-each : (l : List Easing) → T (every l) → (e : Easing) → List·Memᴰ e l → ended e ≡ true
-each [] h e m = absurd (List·Memᴰ·not-nil m)
-each (k ∷ ks) h e m = ⊎-elim (λ q. subst (λ x. ended x ≡ true) (sym q) (first (ended k) (every ks) h)) (λ r. each ks (rest (ended k) (every ks) h) e r) (List·Memᴰ·cases-cons m)
-
-all-ended : T (every (suppliedIn allNamed))
+all-ended : T (every ended (suppliedIn allNamed))
 unfolding suppliedOf applyOf withinOf paramsOf curveOf add sub mul div neg lt le eq isNan ofInt ofBits sqrtOf rootFrom inCirc outCirc inOutCirc cubicBezier foundOf
 all-ended = tt
 
 pub ends : (e : Easing) → List·Memᴰ e (suppliedIn allNamed) → ended e ≡ true
-ends e m = each (suppliedIn allNamed) all-ended e m
+ends e m = every-member ended (suppliedIn allNamed) all-ended e m
 
 pub supplied-number : length (suppliedIn allNamed) ≡ 26
 unfolding suppliedOf

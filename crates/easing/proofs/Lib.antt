@@ -1,4 +1,5 @@
 pub mod Answering
+pub mod Constants
 pub mod Ends
 pub mod Finite
 pub mod Tags

@@ -1,12 +1,15 @@
 -- What the tag of a match on an easing says: it is the number of the kind; the twelve have no curve; all kinds but four have no parameters. Assumes nothing.
 use Prim.Native.Nat.{ℕ}
 use mathlib.Core.Path.{_≡_, refl, sym, subst, _∙_}
-use mathlib.Core.Bool.{Bool, true, false, not, _&&_, _||_}
+use mathlib.Core.Bool.{Bool, true, false, not, _||_}
 use mathlib.Core.List.{List, [], _∷_}
 use mathlib.Core.Logic.{⊎-elim}
 use lib.Dec.{T, eqb}
+use lib.Ieee.Fits.{and-l, and-r}
+use lib.Ieee.Bits.{is-true}
 use types.Run.{OneOf}
 use denote.Enum.Declared.{tagOf}
+use Rattle.math.proofs.Lists.{every}
 use Rattle.easing.specs.Kinds.{numberOf, suppliedOf}
 use Rattle.easing.specs.Params.{noParams, paramsOf}
 use Rattle.easing.proofs.kinds.Easing.{the-type}
@@ -77,23 +80,11 @@ told (Wiggle wiggles) = without (Wiggle wiggles) refl refl refl
 told (CustomBounce strength) = with-params (CustomBounce strength) refl refl refl
 told (ExpoScale start end) = without (ExpoScale start end) refl refl refl
 
-abbrev every : (ℕ → Bool) → List ℕ → Bool
-every f [] = true
-every f (k ∷ ks) = f k && every f ks
-
-first : (a b : Bool) → T (a && b) → a ≡ true
-first true b h = refl
-first false b h = absurd h
-
-rest : (a b : Bool) → T (a && b) → T b
-rest true b h = h
-rest false b h = absurd h
-
 -- what a test says of each key of an arm, it says of the tag
 one-of : (f : ℕ → Bool) (ks : List ℕ) (x : ℕ) → T (every f ks) → OneOf ks x → f x ≡ true
 one-of f [] x h o = absurd o
-one-of f (k ∷ []) x h o = subst (λ n. f n ≡ true) (sym o) (first (f k) _ h)
-one-of f (k ∷ j ∷ ks) x h o = ⊎-elim (λ e. subst (λ n. f n ≡ true) (sym e) (first (f k) _ h)) (λ r. one-of f (j ∷ ks) x (rest (f k) _ h) r) o
+one-of f (k ∷ []) x h o = subst (λ n. f n ≡ true) (sym o) (is-true (f k) (and-l (f k) _ h))
+one-of f (k ∷ j ∷ ks) x h o = ⊎-elim (λ e. subst (λ n. f n ≡ true) (sym e) (is-true (f k) (and-l (f k) _ h))) (λ r. one-of f (j ∷ ks) x (and-r (f k) _ h) r) o
 
 -- and so of the number of the kind
 pub numbered : (f : ℕ → Bool) (ks : List ℕ) (e : Easing) → T (every f ks) → OneOf ks (tagOf the-type e) → f (numberOf e) ≡ true

@@ -15,6 +15,7 @@ use lib.Ieee.Exact.{HasValue}
 use lib.Ieee.Back.{round-whole}
 use Rattle.math.specs.Rounded.{zeroF, f32}
 use Rattle.math.specs.Whole.{ceilOf, wholePartOf}
+use Rattle.math.proofs.Choice.{and-both, and-fails}
 use Rattle.math.proofs.Fitting.{no-size, held, no-fraction}
 use Rattle.math.proofs.WholePart.{part-below}
 use Rattle.math.proofs.Wholes.{whole-is, lt-fraction}
@@ -47,10 +48,6 @@ up-same a d D h =
 -- 2 ^ 24, and less it
 abbrev whole-from : Float
 whole-from = f32 0x4b80_0000
-
-and-both : (a b : Bool) → a && b ≡ true → (a ≡ true) × (b ≡ true)
-and-both true b h = (refl, h)
-and-both false b h = absurd (false≢true h)
 
 -- what `ceil` needs of an x between 0 and 2 ^ 24, and of its whole part w
 abbrev pub Above : Float → ℕ → Type 0
@@ -102,10 +99,8 @@ finite-stays s m e t h =
     let w : (k : ℕ) × (e ≡ pos k) = ⊎-elim (λ z. (0, no-size binary32 s m e t z .1)) (λ b. no-fraction binary32 s m e t b) h in
     subst⁻¹ (λ (e : ℤ). T (fits binary32 (fin s m e)) → fin s m e ≡ ceilOf (fin s m e)) (w .1) (whole-stays s m (w .0)) t
 
--- a conjunction that fails, fails on one side
-and-fails : (a b : Bool) → a && b ≡ false → (a ≡ false) ⊎ (b ≡ false)
-and-fails true b h = inr h
-and-fails false b h = inl refl
+far : (a d : ℕ) → 1 * 16777216 * d ≤ a * 1 → 16777216 * d ≤ a
+far a d h = omega arith
 
 pub stays : (x : Float) → T (fits binary32 x) → lt zeroF x && lt x whole-from ≡ false → lt x zeroF && lt (neg whole-from) x ≡ false → x ≡ ceilOf x
 unfolding lt neg ofBits
@@ -118,9 +113,6 @@ stays (fin false m e) t h k =
   where
     none : (a d : ℕ) → a * 1 ≤ 0 * 1 * d → a ≡ 0
     none a d h = omega arith
-
-    far : (a d : ℕ) → 1 * 16777216 * d ≤ a * 1 → 16777216 * d ≤ a
-    far a d h = omega arith
 stays (fin true m e) t h k =
     finite-stays true m e t
     (⊎-elim (λ z. inl (none (m * up e) (down e) (ltb-false 0 (m * up e * 1 + 0 * 1 * down e) z))) (λ z. inr (far (m * up e) (down e) (ltb-false (m * up e * 1) (1 * 16777216 * down e) z)))
@@ -128,9 +120,6 @@ stays (fin true m e) t h k =
   where
     none : (a d : ℕ) → a * 1 + 0 * 1 * d ≤ 0 → a ≡ 0
     none a d h = omega arith
-
-    far : (a d : ℕ) → 1 * 16777216 * d ≤ a * 1 → 16777216 * d ≤ a
-    far a d h = omega arith
 
 -- the definition is what it says: a / d is at most its ceiling, and above every whole number below that
 pub ceiling-least : (a d : ℕ) → 0 < d → (a ≤ (a + (d - 1)) / d * d) × ((k : ℕ) → k < (a + (d - 1)) / d → k * d < a)
@@ -145,19 +134,19 @@ ceiling-least a d D = (
     short : (w z : ℕ) → z ≡ w + d → z ≤ a + (d - 1) → w < a
     short w z e l = omega arith
 
--- the ceiling of a float up to a whole number is up to it
+-- a fraction up to n has a whole part and a ceiling up to n
+module _ (n a d : ℕ) (D : 0 < d) (h : a ≤ n * d) where
+  pub part-most : a / d ≤ n
+  part-most = le-of-suc-le-suc (div-lt-iff-lt-mul D .1 (omega (arith, suc-mul n d)))
+
+  pub ceiling-most : (a + (d - 1)) / d ≤ n
+  ceiling-most = le-of-suc-le-suc (div-lt-iff-lt-mul D .1 (omega (arith, suc-mul n d)))
+
 whole-most : (w n : ℕ) → w ≤ n → n ≤ 16777216 → AtMost n (ofInt binary32 (pos w))
 whole-most w n h l = is-at-most (ofInt binary32 (pos w)) w n (whole-is binary32 w (le-trans h l)) h
 
 pub ceil-at-most : (n : ℕ) (x : Float) → n ≤ 16777216 → AtMost n x → AtMost n (ceilOf x)
 ceil-at-most n nan l h = h
 ceil-at-most n (inf s) l h = h
-ceil-at-most n (fin false m e) l h = whole-most ((m * up e + (down e - 1)) / down e) n (le-of-suc-le-suc (div-lt-iff-lt-mul (down-pos e) .1 (room (m * up e) (down e) (n * down e) (suc n * down e) (down-pos e) h (suc-mul n (down e))))) l
-  where
-    room : (a d b c : ℕ) → 0 < d → a ≤ b → c ≡ b + d → a + (d - 1) < c
-    room a d b c D h e = omega arith
-ceil-at-most n (fin true m e) l h =
-    at-most-neg n (ofInt binary32 (pos (m * up e / down e))) (whole-most (m * up e / down e) n (le-of-suc-le-suc (div-lt-iff-lt-mul (down-pos e) .1 (room (m * up e) (down e) (n * down e) (suc n * down e) (down-pos e) h (suc-mul n (down e))))) l)
-  where
-    room : (a d b c : ℕ) → 0 < d → a ≤ b → c ≡ b + d → a < c
-    room a d b c D h e = omega arith
+ceil-at-most n (fin false m e) l h = whole-most ((m * up e + (down e - 1)) / down e) n (ceiling-most n (m * up e) (down e) (down-pos e) h) l
+ceil-at-most n (fin true m e) l h = at-most-neg n (ofInt binary32 (pos (m * up e / down e))) (whole-most (m * up e / down e) n (part-most n (m * up e) (down e) (down-pos e) h) l)

@@ -1,7 +1,16 @@
--- What holds of both values of a test holds of what the test picks. Assumes nothing.
+-- Tests: what holds of both values of a test holds of what it picks; a conjunction that passes, and one that fails. Assumes nothing.
 use mathlib.Core.Path.{_≡_, refl}
-use mathlib.Core.Bool.{Bool, true, false, cond}
+use mathlib.Core.Bool.{Bool, true, false, _&&_, cond, false≢true}
+use mathlib.Core.Logic.{_⊎_, inl, inr}
 
 pub by-test : {A : Type 0} (C : A → Type 0) (b : Bool) (x y : A) → (b ≡ true → C x) → (b ≡ false → C y) → C (cond b x y)
 by-test C true x y h k = h refl
 by-test C false x y h k = k refl
+
+pub and-both : (a b : Bool) → a && b ≡ true → (a ≡ true) × (b ≡ true)
+and-both true b h = (refl, h)
+and-both false b h = absurd (false≢true h)
+
+pub and-fails : (a b : Bool) → a && b ≡ false → (a ≡ false) ⊎ (b ≡ false)
+and-fails true b h = inr h
+and-fails false b h = inl refl

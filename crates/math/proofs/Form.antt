@@ -1,6 +1,6 @@
 -- What a test says of a float's form. Assumes nothing.
 use mathlib.Core.Path.{_≡_, refl, sym, ap, _∙_}
-use mathlib.Core.Bool.{Bool, true, false, _&&_, _||_, Bool·beq, true≢false, false≢true}
+use mathlib.Core.Bool.{true, false, _&&_, _||_, Bool·beq, true≢false, false≢true}
 use Prim.Native.Nat.{ℕ, _+_, _*_, _≤_}
 use native.Mathlib.Nat.{mul-one, zero-mul}
 use native.Mathlib.Omega.{arith}
@@ -10,6 +10,7 @@ use lib.Dec.{T, ltb, eqb}
 use lib.Ieee.{Float, nan, inf, fin, Format, up, down, lt, eq, ne, neg, fits, isNan, ofBits}
 use Rattle.math.specs.Rounded.{zeroF}
 use Rattle.math.specs.Range.{sizeOf, finiteOf}
+use Rattle.math.proofs.Choice.{and-both}
 use Rattle.math.proofs.Fitting.{no-size}
 
 -- only a NaN differs from itself
@@ -44,16 +45,12 @@ size-below (inf false) h = absurd (false≢true h)
 size-below (fin true m e) h = refl
 size-below (fin false m e) h = absurd (nothing-below (m * up e * 1) (0 * 1 * down e) (none (down e)) h)
 
-and-left : (a b : Bool) → (a && b) ≡ true → a ≡ true
-and-left true b h = refl
-and-left false b h = h
-
 pub size-zero : (f : Format) (x : Float) → T (fits f x) → eq x zeroF ≡ true → zeroF ≡ sizeOf x
 unfolding eq ofBits
 size-zero f nan t h = absurd (false≢true h)
 size-zero f (inf s) t h = absurd (false≢true h)
 size-zero f (fin s m e) t h =
-    sym (zero-of (no-size f s m e t (sym (mul-one (m * up e)) ∙ eqb-true (m * up e * 1) (0 * 1 * down e) (and-left (eqb (m * up e * 1) (0 * 1 * down e)) (Bool·beq s false || eqb (m * up e * 1) 0) h) ∙ none (down e))))
+    sym (zero-of (no-size f s m e t (sym (mul-one (m * up e)) ∙ eqb-true (m * up e * 1) (0 * 1 * down e) (and-both (eqb (m * up e * 1) (0 * 1 * down e)) (Bool·beq s false || eqb (m * up e * 1) 0) h .0) ∙ none (down e))))
   where
     zero-of : (m ≡ 0) × (e ≡ pos 0) → fin false m e ≡ fin false 0 (pos 0)
     zero-of z = λ i. fin false (z .0 i) (z .1 i)

@@ -4,6 +4,7 @@ pub mod Choice
 mod Examples
 mod Fitting
 mod Form
+pub mod Lists
 pub mod Numbers
 pub mod Order
 pub mod Ranges

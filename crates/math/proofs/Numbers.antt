@@ -1,6 +1,6 @@
 -- Which results are no NaN: a rounded fraction, a finite float less a float that is none, and the quotient of two finite floats of which the second is not a zero. Assumes nothing.
 use mathlib.Core.Path.{_≡_, refl, sym, ap, _∙_, subst, subst⁻¹}
-use mathlib.Core.Bool.{Bool, true, false, not, _&&_, _||_, Bool·beq, cond, true≢false}
+use mathlib.Core.Bool.{Bool, true, false, not, _&&_, _||_, Bool·beq, true≢false}
 use Prim.Native.Nat.{ℕ, zero, suc, _+_, _-_, _*_, _^_}
 use native.Mathlib.Nat.{zero-mul, le-of-eq}
 use borrow.Author.Tests.{eqb-true}
@@ -10,11 +10,11 @@ use lib.Ieee.Fits.{round-is}
 use lib.Ieee.Order.{drop, kept}
 use Rattle.math.specs.Rounded.{zeroF}
 use Rattle.math.specs.Range.{sizeOf, finiteOf}
+use Rattle.math.proofs.Choice.{by-test, and-both}
 use Rattle.math.proofs.Order.{le-sizes, le-lt-chain}
 
-either-number : (b : Bool) (x y : Float) → isNan x ≡ false → isNan y ≡ false → isNan (cond b x y) ≡ false
-either-number true x y p q = p
-either-number false x y p q = q
+abbrev Number : Float → Type 0
+Number x = isNan x ≡ false
 
 inf-number : (s : Bool) → isNan (inf s) ≡ false
 unfolding isNan
@@ -27,7 +27,7 @@ odd-number d s (suc q) k l = refl
 
 units-number : (f : Format) (s : Bool) (q k : ℕ) → isNan (units f s q k) ≡ false
 unfolding units
-units-number f s q k = either-number (ltb (q * 2 ^ k) (2 ^ (low f + suc (emax f)))) _ _ (odd-number (suc (prec f)) s q k (low f)) (inf-number s)
+units-number f s q k = by-test Number (ltb (q * 2 ^ k) (2 ^ (low f + suc (emax f)))) _ _ (λ _. odd-number (suc (prec f)) s q k (low f)) (λ _. inf-number s)
 
 pub round-number : (f : Format) (s : Bool) (a c : ℕ) → isNan (round f s a c) ≡ false
 round-number f s a c = ap isNan (round-is f s a c) ∙ units-number f s (kept (prec f) (a * 2 ^ low f) c) (drop (prec f) (a * 2 ^ low f) c)
@@ -35,8 +35,8 @@ round-number f s a c = ap isNan (round-is f s a c) ∙ units-number f s (kept (p
 sum-number : (f : Format) (s : Bool) (a : ℕ) (t : Bool) (b c : ℕ) → isNan (sum f s a t b c) ≡ false
 unfolding sum
 sum-number f s a t b c =
-    either-number (Bool·beq s t) _ _ (round-number f s (a + b) c)
-    (either-number (ltb a b) _ _ (round-number f t (b - a) c) (round-number f (s && ltb b a) (a - b) c))
+    by-test Number (Bool·beq s t) _ _ (λ _. round-number f s (a + b) c)
+    (λ _. by-test Number (ltb a b) _ _ (λ _. round-number f t (b - a) c) (λ _. round-number f (s && ltb b a) (a - b) c))
 
 pub sub-number : (f : Format) (x y : Float) → T (finiteOf x) → isNan y ≡ false → isNan (sub f x y) ≡ false
 unfolding sub neg add isNan
@@ -56,10 +56,6 @@ div-number f (fin s m e) (fin true zero d) p q h = absurd (true≢false (sym (si
 div-number f (fin s m e) (fin false zero d) p q h = absurd (true≢false (sym (simp zero-mul) ∙ h))
 div-number f (fin s m e) (fin t (suc n) d) p q h = rw (eqb·suc-zero n) (round-number f (unlike s t) (m * up e * down d) (suc n * up d * down e))
 
-and-left : (a b : Bool) → (a && b) ≡ true → a ≡ true
-and-left true b h = refl
-and-left false b h = h
-
 -- what is not below a limit above 0 in size is not a zero
 pub not-zero : (y limit : Float) → T (finiteOf y) → T (lt zeroF limit) → lt (sizeOf y) limit ≡ false → eq y zeroF ≡ false
 unfolding le lt eq ofBits
@@ -72,7 +68,7 @@ not-zero (fin s m e) limit p l h = go (eq (fin s m e) zeroF) refl
     go true k =
         let a = m * up e * 1 in
         let b = 0 * 1 * down e in
-        let none : a ≡ b = eqb-true a b (and-left (eqb a b) (Bool·beq s false || eqb a 0) k) in
+        let none : a ≡ b = eqb-true a b (and-both (eqb a b) (Bool·beq s false || eqb a 0) k .0) in
         absurd (subst T h (le-lt-chain (fin false m e) zeroF limit (subst⁻¹ T (le-sizes false false a b) (le→leb a b (le-of-eq none))) l))
 
 pub finite-number : (x : Float) → T (finiteOf x) → isNan x ≡ false

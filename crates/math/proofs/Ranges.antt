@@ -12,9 +12,10 @@ use lib.Ieee.Fits.{down-pos}
 use lib.Ieee.Order.{round-mono}
 use Rattle.math.specs.Rounded.{_⊕_, _⊖_, _⊗_, zeroF, halfF, oneF, twoF}
 use Rattle.math.specs.Range.{clampOf, clamp01Of, Within}
+use Rattle.math.proofs.Choice.{by-test}
 use Rattle.math.proofs.Order.{le-sizes, not-lt-of-le, le-of-not-lt, le-numbers, le-self}
 use Rattle.math.proofs.Upward.{Up, up-none, sub-up, square-up}
-use Rattle.math.proofs.Sizes.{AtMost, up-to, round-neg, round-at-most, at-most-finite, mul-at-most, sub-near, at-most-either}
+use Rattle.math.proofs.Sizes.{AtMost, up-to, round-neg, round-at-most, at-most-finite, mul-at-most, sub-near}
 use Rattle.math.proofs.Bounded.{one-within}
 use Rattle.math.proofs.Wholes.{Is, whole-is, fraction-le}
 
@@ -107,9 +108,9 @@ two-less (fin false m e) h k =
     let b = 1 * 2 * down e in
     let l : 1 * 1 * down e ≤ a = leb→le (1 * 1 * down e) a (subst T (le-sizes false false (1 * 1 * down e) a) h) in
     let u : a ≤ b = leb→le a b (subst T (le-sizes false false a b) k) in
-    at-most-either 1 (ltb a b) (round binary32 false (b - a) (down e * 1)) (round binary32 (ltb b a) (a - b) (down e * 1))
-    (round-at-most binary32 1 one-held false (b - a) (down e * 1) (mul-pos (down-pos e) (zero-lt-suc 0)) (omega arith))
-    (round-at-most binary32 1 one-held (ltb b a) (a - b) (down e * 1) (mul-pos (down-pos e) (zero-lt-suc 0)) (omega arith))
+    by-test (AtMost 1) (ltb a b) (round binary32 false (b - a) (down e * 1)) (round binary32 (ltb b a) (a - b) (down e * 1))
+    (λ _. round-at-most binary32 1 one-held false (b - a) (down e * 1) (mul-pos (down-pos e) (zero-lt-suc 0)) (omega arith))
+    (λ _. round-at-most binary32 1 one-held (ltb b a) (a - b) (down e * 1) (mul-pos (down-pos e) (zero-lt-suc 0)) (omega arith))
 
 pub turned : (t : Float) → Within t → lt t halfF ≡ false → AtMost 1 (neg twoF ⊗ t ⊕ twoF)
 unfolding mul neg le lt eq ofBits

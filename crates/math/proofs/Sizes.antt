@@ -15,6 +15,7 @@ use lib.Pow.{pow-mono}
 use lib.Ieee.Order.{drop, kept, round-mono}
 use Rattle.math.specs.Rounded.{zeroF, oneF}
 use Rattle.math.specs.Range.{finiteOf, sizeOf}
+use Rattle.math.proofs.Choice.{by-test}
 use Rattle.math.proofs.Order.{le-sizes, le-chain, times-none}
 use Rattle.math.proofs.Upward.{Up, up-none, none-of, round-up}
 use Rattle.math.proofs.Wholes.{Is, le-is, fraction-le, le-fraction}
@@ -117,10 +118,6 @@ at-most-neg n nan h = h
 at-most-neg n (inf s) h = h
 at-most-neg n (fin s m e) h = h
 
-pub at-most-either : (n : ℕ) (b : Bool) (x y : Float) → AtMost n x → AtMost n y → AtMost n (cond b x y)
-at-most-either n true x y h k = h
-at-most-either n false x y h k = k
-
 -- the operations of a format that holds the whole number n
 module _ (f : Format) (n : ℕ) (held : Is (ofInt f (pos n)) n) where
   pub round-at-most : (s : Bool) (a c : ℕ) → 0 < c → a ≤ n * c → AtMost n (round f s a c)
@@ -138,13 +135,13 @@ module _ (f : Format) (n : ℕ) (held : Is (ofInt f (pos n)) n) where
   sum-at-most : (s : Bool) (a : ℕ) (t : Bool) (b c : ℕ) → 0 < c → a + b ≤ n * c → AtMost n (sum f s a t b c)
   unfolding sum
   sum-at-most s a t b c C h =
-      at-most-either n (Bool·beq s t) _ _ (round-at-most s (a + b) c C h)
-      (at-most-either n (ltb a b) _ _ (round-at-most t (b - a) c C (omega arith)) (round-at-most (s && ltb b a) (a - b) c C (omega arith)))
+      by-test (AtMost n) (Bool·beq s t) _ _ (λ _. round-at-most s (a + b) c C h)
+      (λ _. by-test (AtMost n) (ltb a b) _ _ (λ _. round-at-most t (b - a) c C (omega arith)) (λ _. round-at-most (s && ltb b a) (a - b) c C (omega arith)))
 
   sum-near : (s : Bool) (a b c : ℕ) → 0 < c → a ≤ n * c → b ≤ n * c → AtMost n (sum f s a (not s) b c)
   unfolding sum
-  sum-near true a b c C h k = at-most-either n (ltb a b) _ _ (round-at-most false (b - a) c C (omega arith)) (round-at-most (ltb b a) (a - b) c C (omega arith))
-  sum-near false a b c C h k = at-most-either n (ltb a b) _ _ (round-at-most true (b - a) c C (omega arith)) (round-at-most false (a - b) c C (omega arith))
+  sum-near true a b c C h k = by-test (AtMost n) (ltb a b) _ _ (λ _. round-at-most false (b - a) c C (omega arith)) (λ _. round-at-most (ltb b a) (a - b) c C (omega arith))
+  sum-near false a b c C h k = by-test (AtMost n) (ltb a b) _ _ (λ _. round-at-most true (b - a) c C (omega arith)) (λ _. round-at-most false (a - b) c C (omega arith))
 
   pub add-at-most : (p q : ℕ) (x y : Float) → p + q ≤ n → AtMost p x → AtMost q y → AtMost n (add f x y)
   unfolding add
