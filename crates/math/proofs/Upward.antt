@@ -18,21 +18,7 @@ use Rattle.math.proofs.Order.{leq, le-sizes, lt-le, times-none}
 abbrev pub Up : Float → Type 0
 Up x = T (le zeroF x)
 
--- by the sign: with the sign clear always, with the sign set only a zero
-pub up-plain : (m : ℕ) (e : ℤ) → Up (fin false m e)
-unfolding le lt eq ofBits
-up-plain m e = subst⁻¹ T (le-sizes false false (0 * 1 * down e) (m * up e * 1)) (le→leb (0 * 1 * down e) (m * up e * 1) (least (m * up e) (down e)))
-  where
-    least : (a d : ℕ) → 0 * 1 * d ≤ a * 1
-    least a d = omega arith
-
-pub none-up : (m : ℕ) (e : ℤ) → m * up e ≡ 0 → Up (fin true m e)
-unfolding le lt eq ofBits
-none-up m e h = subst⁻¹ T (le-sizes false true (0 * 1 * down e) (m * up e * 1)) (le→leb (0 * 1 * down e + m * up e * 1) 0 (none (m * up e) (down e) h))
-  where
-    none : (a d : ℕ) → a ≡ 0 → 0 * 1 * d + a * 1 ≤ 0
-    none a d h = omega arith
-
+-- with its sign set only a zero is from 0 up
 pub up-none : (m : ℕ) (e : ℤ) → Up (fin true m e) → m * up e ≡ 0
 unfolding le lt eq ofBits
 up-none m e h = none (m * up e) (down e) (leb→le (0 * 1 * down e + m * up e * 1) 0 (subst T (le-sizes false true (0 * 1 * down e) (m * up e * 1)) h))
