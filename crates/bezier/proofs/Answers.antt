@@ -6,8 +6,8 @@ use native.Mathlib.Omega.{arith}
 use lib.Dec.{T, lit≤}
 use lib.Ieee.{Float, eq, ofBits}
 use Rattle.math.specs.Rounded.{zeroF, oneF}
-use Rattle.math.specs.Range.{finiteOf, Within}
-use Rattle.math.proofs.Sizes.{AtMost, at-most-more}
+use Rattle.math.specs.Range.{finiteOf, Within, AtMost}
+use Rattle.math.proofs.Sizes.{at-most-more}
 use Rattle.math.proofs.Ranges.{within-at-most}
 use Rattle.bezier.specs.Curve.{sampleCubicOf}
 use Rattle.bezier.specs.Bezier.{atEnd, foundOf, cubicBezier}

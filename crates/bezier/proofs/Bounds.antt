@@ -3,9 +3,9 @@ use Prim.Native.Nat.{ℕ, _+_, _*_, _≤_}
 use native.Mathlib.Omega.{arith}
 use lib.Dec.{lit≤}
 use lib.Ieee.{Float, ofBits}
+use Rattle.math.specs.Range.{AtMost}
 use Rattle.math.specs.Rounded.{_⊕_, _⊖_, _⊗_, oneF, twoF}
 use Rattle.math.proofs.Bounded.{plus, less, times, shrunk, one-most, two-most}
-use Rattle.math.proofs.Sizes.{AtMost}
 use Rattle.bezier.specs.Curve.{threeF, coefA, coefB, coefC, sampleCubicOf, sampleCubicDerivativeOf}
 
 three-at-most : AtMost 3 threeF

@@ -2,14 +2,14 @@
 use mathlib.Core.Path.{_≡_, refl}
 use mathlib.Core.Bool.{true, false}
 use lib.Ieee.{binary32, round, add, sub, mul, div, neg, lt, eq, ofBits}
-use Rattle.math.specs.Rounded.{f32, zeroF, halfF, oneF, twoF}
+use Rattle.math.specs.Rounded.{f32, zeroF, halfF, oneF}
 use Rattle.bezier.specs.Curve.{threeF, sampleCubicOf, sampleCubicDerivativeOf}
 use Rattle.bezier.specs.Search.{tinyF, turnOf, bisectOf, newtonOf}
 use Rattle.bezier.specs.Bezier.{foundOf, cubicBezier}
 
-pub constants : (round binary32 false 1 1000000 ≡ tinyF) × (round binary32 false 1 2 ≡ halfF) × (round binary32 false 2 1 ≡ twoF) × (round binary32 false 3 1 ≡ threeF)
+pub constants : (tinyF ≡ round binary32 false 1 1000000) × (threeF ≡ round binary32 false 3 1)
 unfolding round ofBits
-constants = (refl, refl, refl, refl)
+constants = (refl, refl)
 
 -- CubicBezier(0, 0, 1, 1) and CubicBezier(0.25, 0.1, 0.25, 1) at 0.5, and CubicBezier(1, 0, 0, 1) at 0.45: near at t, near after four Newton steps, and not near after all steps and bisections
 pub examples : (cubicBezier halfF zeroF zeroF oneF oneF ≡ halfF)

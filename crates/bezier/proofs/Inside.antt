@@ -8,11 +8,11 @@ use lib.Dec.{T, lit≤}
 use lib.Ieee.{Float, nan, inf, fin, binary32, unlike, up, down, mul, lt, ofBits}
 use lib.Ieee.Fits.{down-pos}
 use Rattle.math.specs.Rounded.{_⊕_, _⊖_, _⊗_, _⊘_, zeroF, halfF}
-use Rattle.math.specs.Range.{clamp01Of, sizeOf, finiteOf, Within}
+use Rattle.math.specs.Range.{clamp01Of, sizeOf, finiteOf, Within, AtMost}
 use Rattle.math.proofs.Bounded.{plus, less, zero-within, half-within, one-within}
 use Rattle.math.proofs.Numbers.{finite-number, sub-number, div-number, not-zero}
 use Rattle.math.proofs.Upward.{add-up, mul-up}
-use Rattle.math.proofs.Sizes.{AtMost, at-most-finite, round-at-most}
+use Rattle.math.proofs.Sizes.{at-most-finite, round-at-most}
 use Rattle.math.proofs.Ranges.{clamped, one-held, within-at-most, at-most-within}
 use Rattle.bezier.specs.Curve.{sampleCubicOf, sampleCubicDerivativeOf}
 use Rattle.bezier.specs.Search.{foundAt, tinyF, middleOf, cutOf, nearOf, turnOf, bisectOf, bisectionOf, newtonOf, solveOf}

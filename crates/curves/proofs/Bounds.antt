@@ -8,14 +8,14 @@ use lib.IntN.{pos}
 use lib.Dec.{lit≤}
 use lib.Ieee.{Float, nan, inf, fin, binary32, up, down, lt, le, eq, neg, isNan, ofInt, ofBits}
 use Rattle.math.specs.Rounded.{_⊕_, _⊖_, _⊗_, _⊘_, f32, zeroF, halfF, oneF, twoF}
-use Rattle.math.specs.Range.{clamp01Of, maxZeroOf, Within}
-use Rattle.math.specs.Whole.{ceilOf}
+use Rattle.math.specs.Range.{clamp01Of, maxZeroOf, Within, AtMost}
+use Rattle.math.specs.Whole.{ceilOf, Is}
 use Rattle.math.proofs.Ceiling.{ceil-at-most}
 use Rattle.math.proofs.Bounded.{plus, less, times, over, shrunk, zero-most, half-most, one-most, two-most, two-least, zero-within}
 use Rattle.math.proofs.Choice.{by-test}
-use Rattle.math.proofs.Wholes.{Is, whole-is}
+use Rattle.math.proofs.Wholes.{whole-is}
 use Rattle.math.proofs.Upward.{Up, mul-up, max-zero-up}
-use Rattle.math.proofs.Sizes.{AtMost, AtLeast, is-at-most, is-at-least, at-most-number, at-most-more, at-most-finite, add-at-most, mul-at-most, one-more}
+use Rattle.math.proofs.Sizes.{AtLeast, is-at-most, is-at-least, at-most-number, at-most-more, at-most-finite, add-at-most, mul-at-most, one-more}
 use Rattle.math.proofs.Ranges.{within-at-most, rest, less-one, turned, clamped}
 use Rattle.curves.specs.Powers.{Power, quad, cubic, quart, quint, powi, timesT, leadOf, inPower, outPower, inOutPower}
 use Rattle.curves.specs.Back.{backC1, backC2, backC3, inBack, outBack, inOutBack}

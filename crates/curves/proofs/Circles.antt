@@ -6,10 +6,9 @@ use lib.Dec.{lit≤}
 use lib.Ieee.{Float, binary32, lt, neg}
 use lib.Ieee.Fits.{sub-fits}
 use Rattle.math.specs.Rounded.{_⊕_, _⊖_, _⊗_, _⊘_, halfF, oneF, twoF}
-use Rattle.math.specs.Range.{Within}
+use Rattle.math.specs.Range.{Within, AtMost}
 use Rattle.math.proofs.Bounded.{plus, over, one-most, two-least}
 use Rattle.math.proofs.Ranges.{within-at-most, rest, under-root, less-one, doubled, turned}
-use Rattle.math.proofs.Sizes.{AtMost}
 use Rattle.curves.specs.Circ.{arcOf, inCirc, outCirc, inOutCirc}
 use Rattle.curves.proofs.Roots.{sqrt-within}
 

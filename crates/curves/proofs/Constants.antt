@@ -2,16 +2,13 @@
 use mathlib.Core.Path.{_≡_, refl}
 use mathlib.Core.Bool.{false}
 use lib.Ieee.{binary32, round, add, mul, ofBits}
-use Rattle.math.specs.Rounded.{_⊕_, _⊗_, f32, halfF, oneF, twoF}
+use Rattle.math.specs.Rounded.{_⊕_, _⊗_, f32, oneF}
 use Rattle.curves.specs.Powers.{quad, cubic, quart, quint, leadOf}
 use Rattle.curves.specs.Back.{backC1, backC2, backC3}
 use Rattle.curves.specs.Bounce.{bounceN1, bounceD1}
 use Rattle.curves.specs.Slow.{epsilon}
 
-pub constants : (halfF ≡ round binary32 false 5 10)
-    × (oneF ≡ round binary32 false 1 1)
-    × (twoF ≡ round binary32 false 2 1)
-    × (leadOf quad ≡ round binary32 false 2 1)
+pub constants : (leadOf quad ≡ round binary32 false 2 1)
     × (leadOf cubic ≡ round binary32 false 4 1)
     × (leadOf quart ≡ round binary32 false 8 1)
     × (leadOf quint ≡ round binary32 false 16 1)
@@ -29,5 +26,4 @@ pub constants : (halfF ≡ round binary32 false 5 10)
     × (f32 0x3f7c_0000 ≡ round binary32 false 984375 1000000)
     × (epsilon ≡ round binary32 false 1 8388608)
 unfolding round add mul ofBits
-constants =
-    (refl, refl, refl, refl, refl, refl, refl, refl, refl, refl, refl, refl, refl, refl, refl, refl, refl, refl, refl, refl)
+constants = (refl, refl, refl, refl, refl, refl, refl, refl, refl, refl, refl, refl, refl, refl, refl, refl, refl)

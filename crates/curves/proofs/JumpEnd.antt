@@ -16,13 +16,13 @@ use lib.Ieee.Order.{round-mono}
 use lib.Ieee.Scale.{grid, round-val, round-under}
 use lib.Ieee.Positive.{positive-of-value, values-of-le}
 use Rattle.math.specs.Rounded.{_⊗_, _⊘_, zeroF, oneF}
-use Rattle.math.specs.Range.{clamp01Of, Within}
-use Rattle.math.specs.Whole.{ceilOf}
+use Rattle.math.specs.Range.{clamp01Of, Within, AtMost}
+use Rattle.math.specs.Whole.{ceilOf, Is}
 use Rattle.math.proofs.Ceiling.{up-more, up-same, part-most, ceiling-most}
 use Rattle.math.proofs.Order.{lt-le, eq-self, lt-not-eq, le-numbers, le-of-not-lt, lt-le-chain, le-lt-chain}
-use Rattle.math.proofs.Wholes.{Is, whole-is, div-is}
+use Rattle.math.proofs.Wholes.{whole-is, div-is}
 use Rattle.math.proofs.Upward.{round-up}
-use Rattle.math.proofs.Sizes.{AtMost, is-at-most, at-most-finite, round-at-most, mul-at-most}
+use Rattle.math.proofs.Sizes.{is-at-most, at-most-finite, round-at-most, mul-at-most}
 use Rattle.math.proofs.Ranges.{one-held, clamp-stays, at-most-within, within-at-most}
 use Rattle.curves.specs.Stairs.{countOf, stairsOf, stepsOf, floorOf, jumpEndOf, isWhole}
 

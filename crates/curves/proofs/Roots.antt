@@ -5,24 +5,20 @@ use Prim.Native.Nat.{ℕ, zero, suc, _*_, _^_, _<_, _≤_}
 use native.Mathlib.Nat.{le-of-eq, le-trans, mul-pos, mul-one, eq-of-mul-eq-mul-right, zero-lt-suc}
 use native.Mathlib.Omega.{arith}
 use borrow.Author.Tests.{ltb-true}
-use lib.IntN.{ℤ}
-use lib.Dec.{T, ltb→lt, leb→le}
+use lib.Dec.{T}
 use lib.Pow.{pow-pos}
 use lib.Ieee.{Float, nan, inf, fin, binary32, up, down, odd, size, lt, le, eq, fits, ofBits}
 use lib.Ieee.Exact.{HasValue, odd-sign}
-use lib.Ieee.Fits.{down-pos, and-l, and-r}
+use lib.Ieee.Fits.{down-pos}
 use lib.Ieee.Order.{le-of-values}
 use lib.Ieee.Positive.{positive-of-value, values-of-le}
 use Rattle.math.specs.Rounded.{f32, zeroF, oneF}
 use Rattle.math.specs.Range.{Within}
+use Rattle.math.proofs.Fitting.{few-digits, fine-grained}
+use Rattle.math.proofs.Wholes.{zero-is, one-is}
 use Rattle.curves.specs.Root.{Encloses, Root, SquareRoot, floatAt, scaledOf, placeOf, rootFrom, rootAt, sqrtOf}
 use Rattle.curves.proofs.Nearest.{root-found, nearest-same}
 use Rattle.curves.proofs.Scaled.{cut, placed, rooted, place-same, root-at-most}
-
--- what binary32 holds: a significand of at most 24 digits, over 2 ^ 149 at most
-held : (s : Bool) (m : ℕ) (e : ℤ) → T (fits binary32 (fin s (suc m) e)) → (suc m < 2 ^ 24) × (down e ≤ 2 ^ 149)
-unfolding fits
-held s m e t = (ltb→lt (suc m) (2 ^ 24) (search (and-l, and-r)), leb→le (down e) (2 ^ 149) (search (and-l, and-r)))
 
 root-is : (x : Float) → T (fits binary32 x) → lt zeroF x ≡ true → T (le x oneF) → Root x (rootAt (scaledOf x) (placeOf (scaledOf x)))
 unfolding lt le eq ofBits
@@ -35,9 +31,8 @@ root-is (fin false zero e) f h k = absurd (none (down e) (up e) (ltb-true (0 * 1
     none : (d u : ℕ) → 0 * 1 * d < 0 * u * 1 → ⊥
     none d u h = omega arith
 root-is (fin false (suc m) e) f h k =
-    let b = held false m e f in
     let n = scaledOf (fin false (suc m) e) in
-    let p = placed (suc m) e (zero-lt-suc m) (b .0) (b .1) in
+    let p = placed (suc m) e (zero-lt-suc m) (few-digits binary32 false (suc m) e f) (fine-grained binary32 false m e f) in
     rooted (fin false (suc m) e) (cut n) (placeOf n) (rootFrom 24 (cut n) 0) (p .1) (p .0) (root-found (cut n) (p .0 .0) (p .0 .1))
 
 pub sqrt-is : (x : Float) → T (fits binary32 x) → Within x → SquareRoot x (sqrtOf x)
@@ -70,14 +65,6 @@ pub sqrt-only : (x r : Float) → T (fits binary32 x) → Within x → SquareRoo
 sqrt-only x r f w s = sqrt-unique x r (sqrtOf x) s (sqrt-is x f w)
 
 -- from 0 to 1, as fractions
-one-is : HasValue oneF false 1 1
-unfolding ofBits
-one-is = (refl, refl)
-
-zero-is : HasValue zeroF false 0 1
-unfolding ofBits
-zero-is = (refl, refl)
-
 value-within : (r : Float) (a c : ℕ) → 0 < c → HasValue r false a c → a ≤ c → Within r
 value-within r a c C v h = (le-of-values zeroF r 0 1 a c (zero-lt-suc 0) C zero-is v (omega arith), le-of-values r oneF a c 1 1 C (zero-lt-suc 0) v one-is (omega arith))
 

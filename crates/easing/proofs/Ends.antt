@@ -1,12 +1,12 @@
 -- Each supplied kind, at its parameters in `all_named`, is 0 at 0 and 1 at 1; stated over the list, so that no kind can be left out. Assumes nothing.
 use Prim.Native.Nat.{ℕ}
 use mathlib.Core.Path.{_≡_, refl}
-use mathlib.Core.Bool.{Bool, true, false, _&&_, cond}
+use mathlib.Core.Bool.{true}
 use mathlib.Core.List.{List, [], _∷_, map, List·Memᴰ}
 use lib.Dec.{T}
 use lib.ListN.{length}
 use lib.Ieee.{Float, binary32, add, sub, mul, div, neg, lt, le, eq, isNan, ofInt, ofBits, toBits}
-use Rattle.math.specs.Rounded.{zeroF, oneF}
+use Rattle.math.specs.Rounded.{zeroF}
 use Rattle.math.proofs.Lists.{every, every-member}
 use Rattle.curves.specs.Root.{rootFrom, sqrtOf}
 use Rattle.curves.specs.Circ.{inCirc, outCirc, inOutCirc}
@@ -17,19 +17,7 @@ use Rattle.easing.specs.declared.answers.Eased.the-variants.{Value, Refu
 use Rattle.easing.specs.Kinds.{numberOf, curveOf, suppliedOf, allNamed}
 use Rattle.easing.specs.Params.{paramsOf, withinOf}
 use Rattle.easing.specs.Apply.{applyOf}
-
--- the supplied part of a list of kinds
-abbrev pub suppliedIn : List Easing → List Easing
-suppliedIn [] = []
-suppliedIn (e ∷ es) = cond (suppliedOf e) (e ∷ suppliedIn es) (suppliedIn es)
-
--- the answer is the number v; a zero of either sign is 0
-abbrev pub is : Eased → Float → Bool
-is (Value x) v = eq x v
-is (Refused r) v = false
-
-abbrev pub ended : Easing → Bool
-ended e = is (applyOf e zeroF) zeroF && is (applyOf e oneF) oneF
+use Rattle.easing.specs.Ends.{suppliedIn, ended}
 
 all-ended : T (every ended (suppliedIn allNamed))
 unfolding suppliedOf applyOf withinOf paramsOf curveOf add sub mul div neg lt le eq isNan ofInt ofBits sqrtOf rootFrom inCirc outCirc inOutCirc cubicBezier foundOf

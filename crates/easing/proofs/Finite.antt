@@ -6,13 +6,13 @@ use mathlib.Core.Option.{Option, none, some}
 use lib.Dec.{T, leb→le, lit≤}
 use lib.Ieee.{Float, isNan, ofBits}
 use lib.Ieee.Fits.{and-l, and-r}
+use Rattle.math.specs.Whole.{Is}
 use Rattle.math.specs.Rounded.{f32}
-use Rattle.math.specs.Range.{clamp01Of, finiteOf, Within}
+use Rattle.math.specs.Range.{clamp01Of, finiteOf, Within, AtMost}
 use Rattle.math.proofs.Choice.{by-test}
 use Rattle.math.proofs.Numbers.{finite-number}
 use Rattle.math.proofs.Ranges.{clamped, within-at-most}
-use Rattle.math.proofs.Sizes.{AtMost, at-most-finite, at-most-more, size-at-most}
-use Rattle.math.proofs.Wholes.{Is}
+use Rattle.math.proofs.Sizes.{at-most-finite, at-most-more, size-at-most}
 use Rattle.curves.specs.Powers.{quad, cubic, quart, quint, inPower, outPower, inOutPower}
 use Rattle.curves.specs.Circ.{inCirc, outCirc, inOutCirc}
 use Rattle.curves.specs.Back.{inBack, outBack, inOutBack}

@@ -1,3 +1,4 @@
 pub mod Kinds
 pub mod Params
 pub mod Apply
+pub mod Ends

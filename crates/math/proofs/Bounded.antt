@@ -4,9 +4,9 @@ use native.Mathlib.Nat.{le-of-eq, mul-one}
 use lib.Dec.{lit≤}
 use lib.Ieee.{Float, binary32, lt, le, eq, ofBits}
 use Rattle.math.specs.Rounded.{_⊕_, _⊖_, _⊗_, _⊘_, zeroF, halfF, oneF, twoF}
-use Rattle.math.specs.Range.{Within}
+use Rattle.math.specs.Range.{Within, AtMost}
 use Rattle.math.proofs.Wholes.{whole-is}
-use Rattle.math.proofs.Sizes.{AtMost, AtLeast, add-at-most, sub-at-most, mul-at-most, div-at-most}
+use Rattle.math.proofs.Sizes.{AtLeast, add-at-most, sub-at-most, mul-at-most, div-at-most}
 
 module _ (n : ℕ) (small : n ≤ 16777216) (p q : ℕ) (x y : Float) where
   pub plus : p + q ≤ n → AtMost p x → AtMost q y → AtMost n (x ⊕ y)

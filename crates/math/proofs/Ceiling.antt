@@ -13,13 +13,14 @@ use lib.Ieee.{Float, nan, inf, fin, binary32, up, down, lt, neg, fits, toUnsigne
 use lib.Ieee.Fits.{down-pos}
 use lib.Ieee.Exact.{HasValue}
 use lib.Ieee.Back.{round-whole}
+use Rattle.math.specs.Range.{AtMost}
 use Rattle.math.specs.Rounded.{zeroF, f32}
 use Rattle.math.specs.Whole.{ceilOf, wholePartOf}
 use Rattle.math.proofs.Choice.{and-both, and-fails}
 use Rattle.math.proofs.Fitting.{no-size, held, no-fraction}
 use Rattle.math.proofs.WholePart.{part-below}
 use Rattle.math.proofs.Wholes.{whole-is, lt-fraction}
-use Rattle.math.proofs.Sizes.{AtMost, at-most-neg, is-at-most}
+use Rattle.math.proofs.Sizes.{at-most-neg, is-at-most}
 
 -- the least whole number not below a / d, by whether the whole part is below it
 pub up-more : (a d : ℕ) → 0 < d → a / d * d < a → (a + (d - 1)) / d ≡ a / d + 1

@@ -1,8 +1,8 @@
--- The helpers' definitions, computed. Assumes nothing.
+-- The helpers' definitions and the constants, computed. Assumes nothing.
 use mathlib.Core.Path.{_≡_, refl}
-use lib.Ieee.{nan, inf, lt, neg, ofInt, toUnsigned, ofBits}
+use lib.Ieee.{binary32, round, nan, inf, lt, neg, ofInt, toUnsigned, ofBits}
 use mathlib.Core.Bool.{false}
-use Rattle.math.specs.Rounded.{f32}
+use Rattle.math.specs.Rounded.{f32, zeroF, halfF, oneF, twoF}
 use Rattle.math.specs.Range.{clamp01Of, maxZeroOf, sizeOf}
 use Rattle.math.specs.Whole.{ceilOf, wholePartOf}
 
@@ -26,3 +26,8 @@ pub helpers : (clamp01Of (f32 0x8000_0000) ≡ f32 0x8000_0000)
     × (wholePartOf nan ≡ 0)
 unfolding lt neg ofInt toUnsigned ofBits
 helpers = (refl, refl, refl, refl, refl, refl, refl, refl, refl, refl, refl, refl, refl, refl, refl, refl, refl)
+
+-- each shared constant is the f32 nearest to its decimal
+pub constants : (zeroF ≡ round binary32 false 0 1) × (halfF ≡ round binary32 false 5 10) × (oneF ≡ round binary32 false 1 1) × (twoF ≡ round binary32 false 2 1)
+unfolding round ofBits
+constants = (refl, refl, refl, refl)

@@ -1,4 +1,4 @@
--- What a format's holding a value says of the value: it has at most `prec` digits and lies in reach, a zero has one form, and where it is whole it is that whole number, rounded. Assumes nothing.
+-- What a format's holding a value says of the value: it has at most `prec` digits, lies in reach and is no finer than the smallest value, a zero has one form, and where it is whole it is that whole number, rounded. Assumes nothing.
 use mathlib.Core.Path.{_≡_, refl, sym, ap, _∙_}
 use mathlib.Core.Bool.{Bool, false}
 use Prim.Native.Nat.{ℕ, zero, suc, _+_, _*_, _^_, _<_, _≤_}
@@ -6,7 +6,7 @@ use native.Mathlib.Nat.{zero-mul, mul-one, one-mul, mul-assoc, mul-pos, zero-lt-
 use native.Mathlib.Omega.{arith}
 use lib.IntN.{ℤ, pos, negsuc}
 use lib.Pow.{pow-pos, pow-add, shl-lt}
-use lib.Dec.{T, ltb→lt, eqb→eq}
+use lib.Dec.{T, leb→le, ltb→lt, eqb→eq}
 use lib.Ieee.{fin, Format, prec, emax, low, up, down, fits, ofInt}
 use lib.Ieee.Fits.{up-pos, and-l, and-r, ofInt-fits}
 use lib.Ieee.Exact.{round-exact}
@@ -20,6 +20,10 @@ few-digits f s (suc m) e t = ltb→lt (suc m) (2 ^ prec f) (search (and-l, and-r
 pub in-reach : (f : Format) (s : Bool) (m : ℕ) (e : ℤ) → T (fits f (fin s (suc m) e)) → suc m * up e < 2 ^ suc (emax f) * down e
 unfolding fits
 in-reach f s m e t = ltb→lt (suc m * up e) (2 ^ suc (emax f) * down e) (search (and-l, and-r))
+
+pub fine-grained : (f : Format) (s : Bool) (m : ℕ) (e : ℤ) → T (fits f (fin s (suc m) e)) → down e ≤ 2 ^ low f
+unfolding fits
+fine-grained f s m e t = leb→le (down e) (2 ^ low f) (search (and-l, and-r))
 
 -- a zero
 some : (a : ℕ) → 0 < a → a ≡ 0 → ⊥

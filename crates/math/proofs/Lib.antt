@@ -2,7 +2,7 @@ pub mod Bounded
 pub mod Ceiling
 pub mod Choice
 mod Examples
-mod Fitting
+pub mod Fitting
 mod Form
 pub mod Lists
 pub mod Numbers

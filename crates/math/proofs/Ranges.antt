@@ -10,14 +10,15 @@ use lib.Dec.{T, ltb, lit≤, leb→le, le→leb}
 use lib.Ieee.{Float, nan, inf, fin, binary32, up, down, round, sum, add, mul, neg, lt, le, eq, isNan, ofInt, ofBits}
 use lib.Ieee.Fits.{down-pos}
 use lib.Ieee.Order.{round-mono}
+use Rattle.math.specs.Whole.{Is}
 use Rattle.math.specs.Rounded.{_⊕_, _⊖_, _⊗_, zeroF, halfF, oneF, twoF}
-use Rattle.math.specs.Range.{clampOf, clamp01Of, Within}
+use Rattle.math.specs.Range.{clampOf, clamp01Of, Within, AtMost}
 use Rattle.math.proofs.Choice.{by-test}
 use Rattle.math.proofs.Order.{le-sizes, not-lt-of-le, le-of-not-lt, le-numbers, le-self}
 use Rattle.math.proofs.Upward.{Up, up-none, sub-up, square-up}
-use Rattle.math.proofs.Sizes.{AtMost, up-to, round-neg, round-at-most, at-most-finite, mul-at-most, sub-near}
+use Rattle.math.proofs.Sizes.{up-to, round-neg, round-at-most, at-most-finite, mul-at-most, sub-near}
 use Rattle.math.proofs.Bounded.{one-within}
-use Rattle.math.proofs.Wholes.{Is, whole-is, fraction-le}
+use Rattle.math.proofs.Wholes.{one-is, whole-is, fraction-le}
 
 -- clamp
 pub clamp-between : (x lo hi : Float) → isNan x ≡ false → T (le lo hi) → T (le lo (clampOf x lo hi)) × T (le (clampOf x lo hi) hi)
@@ -42,10 +43,6 @@ pub clamp-stays : (x : Float) → Within x → clamp01Of x ≡ x
 clamp-stays x w = simp (not-lt-of-le zeroF x (w .0), not-lt-of-le x oneF (w .1))
 
 -- from 0 to 1, as from 0 up and at most 1 in size
-one-is : Is oneF 1
-unfolding ofBits
-one-is = (refl, refl)
-
 pub one-held : Is (ofInt binary32 (pos 1)) 1
 one-held = whole-is binary32 1 (lit≤ tt)
 

@@ -13,18 +13,13 @@ use lib.Ieee.Fits.{up-pos, down-pos, round-is}
 use lib.Ieee.Back.{round-whole}
 use lib.Pow.{pow-mono}
 use lib.Ieee.Order.{drop, kept, round-mono}
+use Rattle.math.specs.Whole.{Is}
 use Rattle.math.specs.Rounded.{zeroF, oneF}
-use Rattle.math.specs.Range.{finiteOf, sizeOf}
+use Rattle.math.specs.Range.{finiteOf, sizeOf, AtMost}
 use Rattle.math.proofs.Choice.{by-test}
 use Rattle.math.proofs.Order.{le-sizes, le-chain, times-none}
 use Rattle.math.proofs.Upward.{Up, up-none, none-of, round-up}
-use Rattle.math.proofs.Wholes.{Is, le-is, fraction-le, le-fraction}
-
--- finite, and at most n in size
-abbrev pub AtMost : ℕ → Float → Type 0
-AtMost n nan = ⊥
-AtMost n (inf s) = ⊥
-AtMost n (fin s m e) = m * up e ≤ n * down e
+use Rattle.math.proofs.Wholes.{zero-is, le-is, fraction-le, le-fraction}
 
 pub at-most-finite : (n : ℕ) (x : Float) → AtMost n x → T (finiteOf x)
 at-most-finite n nan h = absurd h
@@ -69,10 +64,6 @@ size-at-most n (inf s) (fin t o d) v h = absurd h
 size-at-most n (fin s m e) z v h = leb→le (m * up e) (n * down e) (subst T (fraction-le z n m e v) h)
 
 -- not below a u that is 1
-zero-is : Is zeroF 0
-unfolding ofBits
-zero-is = (refl, refl)
-
 minus-low : (m : ℕ) (e : ℤ) → T (le (fin true m e) zeroF)
 unfolding le lt eq ofBits
 minus-low m e = subst⁻¹ T (le-sizes true false (m * up e * 1) (0 * 1 * down e)) tt

@@ -7,16 +7,13 @@ use mathlib.Core.Bool.{Bool, true, false, not, _&&_, cond, true≢false}
 use lib.IntN.{ℤ, pos}
 use lib.Dec.{leb, ltb, eqb, lit<}
 use borrow.Author.Tests.{lt-ltb, le-ltb, eq-eqb, ne-eqb, ltb-true, ltb-false, eqb-true, eqb-false}
-use lib.Ieee.{Float, nan, inf, fin, Format, prec, up, down, round, sum, add, sub, mul, div, neg, lt, le, eq, isNan, ofInt}
-use lib.Ieee.Exact.{HasValue}
+use lib.Ieee.{Float, nan, inf, fin, Format, prec, up, down, round, sum, add, sub, mul, div, neg, lt, le, eq, isNan, ofInt, ofBits}
 use lib.Ieee.Scale.{round-same}
 use lib.Ieee.Back.{round-whole}
 use lib.Ieee.Fits.{down-pos}
+use Rattle.math.specs.Rounded.{zeroF, oneF}
+use Rattle.math.specs.Whole.{Is}
 use Rattle.math.proofs.Order.{le-turned, not-ltb}
-
--- x is the whole number n
-abbrev pub Is : Float → ℕ → Type 0
-Is x n = HasValue x false n 1
 
 pub whole-is : (f : Format) (n : ℕ) → n ≤ 2 ^ prec f → Is (ofInt f (pos n)) n
 unfolding ofInt
@@ -27,6 +24,14 @@ unfolding isNan
 is-number nan n v = absurd v
 is-number (inf s) n v = refl
 is-number (fin s m e) n v = refl
+
+pub zero-is : Is zeroF 0
+unfolding ofBits
+zero-is = (refl, refl)
+
+pub one-is : Is oneF 1
+unfolding ofBits
+one-is = (refl, refl)
 
 -- on numbers: x / c is a, and y / c is b
 module _ (x y a b c : ℕ) (h : x ≡ a * c) (k : y ≡ b * c) where

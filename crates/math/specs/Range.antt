@@ -1,7 +1,8 @@
 -- Document 01, "Easing" and "Order of the port": clamp, max with 0, the size without its sign, and which floats are finite.
 use mathlib.Core.Bool.{Bool, true, false, cond}
+use Prim.Native.Nat.{ℕ, _*_, _≤_}
 use lib.Dec.{T}
-use lib.Ieee.{Float, nan, inf, fin, lt, le}
+use lib.Ieee.{Float, nan, inf, fin, up, down, lt, le}
 use Rattle.math.specs.Rounded.{zeroF, oneF}
 
 -- "Clamping keeps a zero's sign": what lies from lo to hi stays as it is; a NaN stays one
@@ -31,3 +32,9 @@ abbrev pub finiteOf : Float → Bool
 finiteOf nan = false
 finiteOf (inf s) = false
 finiteOf (fin s m e) = true
+
+-- finite, and at most n in size. `fin s m e` has the size m * up e / down e
+abbrev pub AtMost : ℕ → Float → Type 0
+AtMost n nan = ⊥
+AtMost n (inf s) = ⊥
+AtMost n (fin s m e) = m * up e ≤ n * down e

@@ -3,6 +3,7 @@ use mathlib.Core.Bool.{true, false}
 use Prim.Native.Nat.{ℕ, _+_, _-_, _*_, _/_}
 use lib.IntN.{pos}
 use lib.Ieee.{Float, nan, inf, fin, binary32, up, down, neg, ofInt, toUnsigned}
+use lib.Ieee.Exact.{HasValue}
 
 -- the least whole number that is not below x; what is not above 0 keeps its sign, so that -0.5 gives -0; a NaN and the infinities stay
 abbrev pub ceilOf : Float → Float
@@ -14,3 +15,7 @@ ceilOf (fin true m e) = neg (ofInt binary32 (pos (m * up e / down e)))
 -- the whole part: 0 for a NaN and for what is below 0, and at most 4,294,967,295
 abbrev pub wholePartOf : Float → ℕ
 wholePartOf x = toUnsigned 32 x
+
+-- x is the whole number n, with its sign clear
+abbrev pub Is : Float → ℕ → Type 0
+Is x n = HasValue x false n 1
