@@ -1,27 +1,27 @@
 -- Steps and W3C's jump-end agree exactly where the rounded product t·n is whole. Assumes nothing.
 use mathlib.Core.Path.{_≡_, refl, sym, ap, _∙_, subst⁻¹}
 use mathlib.Core.Bool.{Bool, true, false, cond, true≢false, false≢true}
-use Prim.Native.Nat.{ℕ, suc, _+_, _-_, _*_, _/_, _%_, _^_, _<_, _≤_, max}
-use native.Mathlib.Nat.{one-mul, div-add-mod', le-trans, le-of-eq, lt-of-lt-of-le, le-refl, le-of-mul-le-mul-right, mul-lt-mul-of-pos-right, mul-le-mul-right, mul-comm, mul-assoc, div-mul-le-self, div-lt-iff-lt-mul}
+use Prim.Native.Nat.{ℕ, zero, suc, _+_, _-_, _*_, _/_, _%_, _^_, _<_, _≤_, max}
+use native.Mathlib.Nat.{mul-pos, zero-lt-suc, one-mul, div-add-mod', le-trans, le-of-eq, lt-of-lt-of-le, le-refl, le-of-mul-le-mul-right, mul-lt-mul-of-pos-right, mul-le-mul-right, mul-comm, mul-assoc, div-mul-le-self, div-lt-iff-lt-mul}
 use native.Mathlib.Numerals.{add-one}
 use native.Mathlib.Omega.{arith}
 use lib.Pow.{pow-pos}
-use borrow.Author.Tests.{eqb-true, eqb-false}
-use lib.IntN.{pos}
-use lib.Dec.{T, eqb, lit≤, lit<}
-use lib.Ieee.{Float, nan, inf, fin, binary32, up, down, round, lt, le, eq, isNan, mul, ofInt, ofBits}
-use lib.Ieee.Fits.{down-pos}
+use borrow.Author.Tests.{eqb-true, eqb-false, eq-eqb, ltb-false}
+use lib.IntN.{ℤ, pos}
+use lib.Dec.{T, eqb, eqb·suc-zero, lit≤, lit<}
+use lib.Ieee.{Float, nan, inf, fin, binary32, unlike, up, down, round, lt, le, eq, isNan, mul, div, neg, ofInt, ofBits}
+use lib.Ieee.Fits.{up-pos, down-pos}
 use lib.Ieee.Exact.{HasValue, round-exact}
 use lib.Ieee.Order.{round-mono}
-use lib.Ieee.Scale.{grid, round-val, round-under}
+use lib.Ieee.Scale.{round-same, grid, round-val, round-under}
 use lib.Ieee.Positive.{positive-of-value, values-of-le}
 use Rattle.math.specs.Rounded.{_⊗_, _⊘_, zeroF, oneF}
 use Rattle.math.specs.Range.{clamp01Of, Within, AtMost}
 use Rattle.math.specs.Whole.{ceilOf, Is}
 use Rattle.math.proofs.Ceiling.{up-more, up-same, part-most, ceiling-most}
-use Rattle.math.proofs.Order.{lt-le, eq-self, lt-not-eq, le-numbers, le-of-not-lt, lt-le-chain, le-lt-chain}
+use Rattle.math.proofs.Order.{times-none, lt-le, eq-self, lt-not-eq, le-numbers, le-of-not-lt, lt-le-chain, le-lt-chain}
 use Rattle.math.proofs.Wholes.{whole-is, div-is}
-use Rattle.math.proofs.Upward.{round-up}
+use Rattle.math.proofs.Upward.{Up, up-none, round-up}
 use Rattle.math.proofs.Sizes.{is-at-most, at-most-finite, round-at-most, mul-at-most}
 use Rattle.math.proofs.Ranges.{one-held, clamp-stays, at-most-within, within-at-most}
 use Rattle.curves.specs.Stairs.{countOf, stairsOf, stepsOf, floorOf, jumpEndOf, isWhole}
@@ -151,8 +151,8 @@ signed (fin false m e) (fin false o d) n p q v h =
     let b = down e * down d in
     (grid binary32 a b, round-val binary32 a b (round-under binary32 a b (at-most-finite n (round binary32 false a b) h)))
 
-pub steps-jump-end : (t : Float) (n : ℕ) → lt zeroF t ≡ true → T (le t oneF) → n ≤ 65536 → eq (stepsOf t n) (jumpEndOf t n) ≡ isWhole (t ⊗ countOf n)
-steps-jump-end t n p q l =
+above-zero : (t : Float) (n : ℕ) → lt zeroF t ≡ true → T (le t oneF) → n ≤ 65536 → eq (stepsOf t n) (jumpEndOf t n) ≡ isWhole (t ⊗ countOf n)
+above-zero t n p q l =
     let N = max n 1 in
     let c = countOf n in
     let v : Is c N = whole-is binary32 N (omega arith) in
@@ -160,3 +160,83 @@ steps-jump-end t n p q l =
     let h : AtMost N (t ⊗ c) = mul-at-most binary32 N v 1 N t c (le-of-eq (one-mul N)) (within-at-most t w) (is-at-most c N N v (le-refl N)) in
     let u = signed t c N p q v h in
     ap (λ (b : Bool). eq (cond b zeroF (stairsOf t c)) (jumpEndOf t n)) (lt-not-eq zeroF t (subst⁻¹ T p tt)) ∙ product N (omega arith) (omega arith) c v (t ⊗ c) (u .0) (2 ^ 149) (u .1) h
+
+-- a zero, with its sign
+abbrev zero-at : Bool → Float
+zero-at s = fin s 0 (pos 0)
+
+zero-rounds : (s : Bool) (a c : ℕ) → a ≡ 0 → 0 < c → round binary32 (unlike s false) a c ≡ zero-at s
+unfolding round
+zero-rounds false a c z C = round-same binary32 false a c 0 1 C (lit< tt) (omega (arith, z))
+zero-rounds true a c z C = round-same binary32 true a c 0 1 C (lit< tt) (omega (arith, z))
+
+zero-floor : (s : Bool) → floorOf (zero-at s) ≡ zero-at s
+unfolding ofInt neg
+zero-floor false = refl
+zero-floor true = refl
+
+module _ (s : Bool) (m : ℕ) (e : ℤ) (z : m * up e ≡ 0) where
+  zero-product : (c : Float) (n : ℕ) → Is c n → fin s m e ⊗ c ≡ zero-at s
+  unfolding mul
+  zero-product nan n v = absurd v
+  zero-product (inf t) n v = absurd v
+  zero-product (fin true o d) n v = absurd (true≢false (v .0))
+  zero-product (fin false o d) n v = zero-rounds s (m * up e * (o * up d)) (down e * down d) (times-none (m * up e) (o * up d) z) (mul-pos (down-pos e) (down-pos d))
+
+  zero-equal : eq (fin s m e) zeroF ≡ true
+  unfolding eq ofBits
+  zero-equal = let y : m * up e * 1 ≡ 0 * 1 * down e = omega (arith, z) in let x : m * up e * 1 ≡ 0 = omega (arith, z) in go s (eq-eqb _ _ y) (eq-eqb _ _ x)
+    where
+      go : (s : Bool) → eqb (m * up e * 1) (0 * 1 * down e) ≡ true → eqb (m * up e * 1) 0 ≡ true → eq (fin s m e) zeroF ≡ true
+      go false h k = rw h
+      go true h k = rw (h, k)
+
+zero-quotient : (s : Bool) (c : Float) (n : ℕ) → 0 < n → Is c n → zero-at s ⊘ c ≡ zero-at s
+unfolding div
+zero-quotient s nan n N v = absurd v
+zero-quotient s (inf t) n N v = absurd v
+zero-quotient s (fin true o d) n N v = absurd (true≢false (v .0))
+zero-quotient s (fin false zero d) n N v = absurd (none (n * down d) (up d) (mul-pos N (down-pos d)) (v .1))
+  where
+    none : (a u : ℕ) → 0 < a → 0 * u * 1 ≡ a → ⊥
+    none a u A h = omega arith
+zero-quotient s (fin false (suc o) d) n N v = rw (eqb·suc-zero o) (zero-rounds s (0 * 1 * down d) (suc o * up d * 1) (omega arith) (mul-pos (mul-pos (zero-lt-suc o) (up-pos d)) (lit< tt)))
+
+zeros-agree : (s : Bool) → eq zeroF (zero-at s) ≡ isWhole (zero-at s)
+unfolding eq ofBits
+zeros-agree false = refl
+zeros-agree true = refl
+
+at-zero : (s : Bool) (m : ℕ) (e : ℤ) (n : ℕ) → m * up e ≡ 0 → n ≤ 65536 → eq (stepsOf (fin s m e) n) (jumpEndOf (fin s m e) n) ≡ isWhole (fin s m e ⊗ countOf n)
+at-zero s m e n z l =
+    let N = max n 1 in
+    let c = countOf n in
+    let v : Is c N = whole-is binary32 N (omega arith) in
+    let p : fin s m e ⊗ c ≡ zero-at s = zero-product s m e z c N v in
+    ap (λ (b : Bool). eq (cond b zeroF (stairsOf (fin s m e) c)) (jumpEndOf (fin s m e) n)) (zero-equal s m e z)
+    ∙ ap (λ (y : Float). eq zeroF (floorOf y ⊘ c)) p
+    ∙ ap (λ (y : Float). eq zeroF (y ⊘ c)) (zero-floor s)
+    ∙ ap (eq zeroF) (zero-quotient s c N (omega arith) v)
+    ∙ zeros-agree s
+    ∙ ap isWhole (sym p)
+
+-- what is from 0 up and not above 0 has no size
+no-size : (s : Bool) (m : ℕ) (e : ℤ) → Up (fin s m e) → lt zeroF (fin s m e) ≡ false → m * up e ≡ 0
+unfolding lt ofBits
+no-size true m e u h = up-none m e u
+no-size false m e u h = none (m * up e) (down e) (ltb-false (0 * 1 * down e) (m * up e * 1) h)
+  where
+    none : (a d : ℕ) → a * 1 ≤ 0 * 1 * d → a ≡ 0
+    none a d h = omega arith
+
+pub steps-jump-end : (t : Float) (n : ℕ) → Within t → n ≤ 65536 → eq (stepsOf t n) (jumpEndOf t n) ≡ isWhole (t ⊗ countOf n)
+steps-jump-end t n w l = go (lt zeroF t) refl
+  where
+    finite : (t : Float) → AtMost 1 t → Up t → lt zeroF t ≡ false → eq (stepsOf t n) (jumpEndOf t n) ≡ isWhole (t ⊗ countOf n)
+    finite nan h u k = absurd h
+    finite (inf s) h u k = absurd h
+    finite (fin s m e) h u k = at-zero s m e n (no-size s m e u k) l
+
+    go : (b : Bool) → lt zeroF t ≡ b → eq (stepsOf t n) (jumpEndOf t n) ≡ isWhole (t ⊗ countOf n)
+    go true p = above-zero t n p (w .1) l
+    go false p = finite t (within-at-most t w) (w .0) p
