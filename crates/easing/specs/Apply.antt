@@ -26,6 +26,10 @@ easedAt (some curve) fine t = limitedOf fine (curve t)
 unfoldable pub applyOf : Easing → Float → Eased
 applyOf e t = cond (isNan t) (Refused ProgressIsNan) (easedAt (curveOf e) (withinOf (paramsOf e)) (clamp01Of t))
 
+-- "Easing inside a record must be supplied and within limits"
+unfoldable pub fitsRecordOf : Easing → Bool
+fitsRecordOf e = suppliedOf e && withinOf (paramsOf e)
+
 -- the same kind with equal parameters
 abbrev pub sameOf : Easing → Easing → Bool
 sameOf x y = eqb (numberOf x) (numberOf y) && equalOf (paramsOf x) (paramsOf y)

@@ -1,6 +1,7 @@
 // The parameters of an easing, and their limits.
 ghost use mathlib.Core.Path.{_≡_};
 ghost use Rattle.easing.specs.Params.{paramsOf, withinOf, equalOf};
+ghost use Rattle.easing.specs.Apply.{fitsRecordOf};
 use crate::kinds::Easing;
 
 // b and d are the Bezier's y and the power, which have a limit of size.
@@ -71,4 +72,13 @@ pub fn equal(p: Params, q: Params) -> bool
     ensures { λ r. ⌜ r ≡ equalOf p q ⌝ }
 {
     (p.a == q.a) & (p.b == q.b) & (p.c == q.c) & (p.d == q.d) & (p.count == q.count)
+}
+
+impl Easing {
+    // Whether a tween or a frame may hold it: supplied, and its parameters within their limits.
+    pub fn fits_record(self) -> bool
+        ensures { λ r. ⌜ r ≡ fitsRecordOf self ⌝ }
+    {
+        self.is_supplied() & within(params_of(self))
+    }
 }

@@ -1,17 +1,18 @@
 -- What a test says of a float's form. Assumes nothing.
 use mathlib.Core.Path.{_≡_, refl, sym, ap, _∙_}
-use mathlib.Core.Bool.{true, false, _&&_, _||_, Bool·beq, true≢false, false≢true}
+use mathlib.Core.Bool.{true, false, and-true, _&&_, _||_, Bool·beq, true≢false, false≢true}
 use Prim.Native.Nat.{ℕ, _+_, _*_, _≤_}
 use native.Mathlib.Nat.{mul-one, zero-mul}
 use native.Mathlib.Omega.{arith}
 use borrow.Author.Tests.{ltb-true, ltb-false, eqb-true, eq-eqb}
-use lib.IntN.{pos}
-use lib.Dec.{T, ltb, eqb}
-use lib.Ieee.{Float, nan, inf, fin, Format, up, down, lt, eq, ne, neg, fits, isNan, ofBits}
+use lib.IntN.{ℤ, pos}
+use lib.Dec.{T, leb, ltb, eqb}
+use lib.Ieee.{Float, nan, inf, fin, Format, up, down, lt, le, eq, ne, neg, fits, isNan, ofBits}
 use Rattle.math.specs.Rounded.{zeroF}
-use Rattle.math.specs.Range.{sizeOf, finiteOf}
+use Rattle.math.specs.Range.{sizeOf, finiteOf, betweenOf}
 use Rattle.math.proofs.Choice.{and-both}
 use Rattle.math.proofs.Fitting.{no-size}
+use Rattle.math.proofs.Order.{le-sizes}
 
 -- only a NaN differs from itself
 pub ne-self : (x : Float) → ne x x ≡ isNan x
@@ -71,3 +72,18 @@ size-above (inf true) h k = absurd (true≢false h)
 size-above (inf false) h k = refl
 size-above (fin false m e) h k = refl
 size-above (fin true m e) h k = absurd (not-less (m * up e * 1) (0 * 1 * down e) (none (down e)) h k)
+
+-- at most y in size: from -y to y
+pub size-between : (x : Float) (n : ℕ) (d : ℤ) → betweenOf (fin true n d) (fin false n d) x ≡ le (sizeOf x) (fin false n d)
+unfolding le lt eq
+size-between nan n d = refl
+size-between (inf true) n d = refl
+size-between (inf false) n d = refl
+size-between (fin true m e) n d =
+    let a = m * up e * down d in
+    let b = n * up d * down e in
+    rw (le-sizes true true b a, le-sizes true false a b, le-sizes false false a b) (and-true (leb a b))
+size-between (fin false m e) n d =
+    let a = m * up e * down d in
+    let b = n * up d * down e in
+    rw (le-sizes true false b a)

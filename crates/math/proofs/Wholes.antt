@@ -3,7 +3,7 @@ use Prim.Native.Nat.{ℕ, _+_, _-_, _*_, _^_, _≤_, _<_}
 use native.Mathlib.Nat.{lt-irrefl, zero-mul, mul-assoc, mul-comm, mul-left-comm, mul-one, mul-right-comm, mul-pos, mul-le-mul-right, mul-lt-mul-of-pos-right, eq-of-mul-eq-mul-right}
 use native.Mathlib.Omega.{arith}
 use mathlib.Core.Path.{_≡_, refl, sym, ap, _∙_, subst, subst⁻¹}
-use mathlib.Core.Bool.{Bool, true, false, not, _&&_, cond, true≢false}
+use mathlib.Core.Bool.{Bool, true, false, not, _&&_, cond, true≢false, and-true}
 use lib.IntN.{ℤ, pos}
 use lib.Dec.{leb, ltb, eqb, lit<}
 use borrow.Author.Tests.{lt-ltb, le-ltb, eq-eqb, ne-eqb, ltb-true, ltb-false, eqb-true, eqb-false}
@@ -71,10 +71,6 @@ over p q a b E D h k = ap (λ (z : ℕ). z * D * b) h ∙ turned a E D b ∙ ap 
   where
     turned : (a E D b : ℕ) → a * E * D * b ≡ a * (b * D * E)
     turned a E D b = simp (mul-assoc, mul-comm, mul-left-comm)
-
-and-true : (t : Bool) → t && true ≡ t
-and-true true = refl
-and-true false = refl
 
 -- what is shown of m * up e / down e, where that is a, and of n * up d / down d, where that is b, holds of all floats that are a and b
 by-form : (a b : ℕ) (C : Float → Float → Type 0) → ((m : ℕ) (e : ℤ) (n : ℕ) (d : ℤ) → m * up e ≡ a * down e → n * up d ≡ b * down d → C (fin false m e) (fin false n d))

@@ -1,9 +1,9 @@
 -- Document 01, "Easing" and "Order of the port": clamp, max with 0, the size without its sign, and which floats are finite.
-use mathlib.Core.Bool.{Bool, true, false, cond}
+use mathlib.Core.Bool.{Bool, true, false, _&&_, cond}
 use Prim.Native.Nat.{ℕ, _*_, _≤_}
 use lib.Dec.{T}
 use lib.Ieee.{Float, nan, inf, fin, up, down, lt, le}
-use Rattle.math.specs.Rounded.{zeroF, oneF}
+use Rattle.math.specs.Rounded.{zeroF, oneF, topF}
 
 -- "Clamping keeps a zero's sign": what lies from lo to hi stays as it is; a NaN stays one
 abbrev pub clampOf : Float → Float → Float → Float
@@ -32,6 +32,14 @@ abbrev pub finiteOf : Float → Bool
 finiteOf nan = false
 finiteOf (inf s) = false
 finiteOf (fin s m e) = true
+
+-- "values finite, at most 16,777,216 in size": no NaN is at most anything
+abbrev pub valueOf : Float → Bool
+valueOf x = le (sizeOf x) topF
+
+-- from lo to hi, as numbers: a zero of either sign is 0
+abbrev pub betweenOf : Float → Float → Float → Bool
+betweenOf lo hi x = le lo x && le x hi
 
 -- finite, and at most n in size. `fin s m e` has the size m * up e / down e
 abbrev pub AtMost : ℕ → Float → Type 0

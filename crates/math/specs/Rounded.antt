@@ -35,3 +35,7 @@ oneF = f32 0x3f80_0000
 -- 2
 abbrev pub twoF : Float
 twoF = f32 0x4000_0000
+
+-- 16,777,216
+abbrev pub topF : Float
+topF = f32 0x4b80_0000

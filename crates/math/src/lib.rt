@@ -7,6 +7,8 @@ pub use class::is_finite;
 pub use class::is_nan;
 pub use range::clamp;
 pub use range::clamp01;
+pub use range::is_between;
+pub use range::is_value;
 pub use range::max_zero;
 pub use range::size;
 pub use whole::ceil;

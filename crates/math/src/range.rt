@@ -1,6 +1,6 @@
 // Keeping a float in a range.
 ghost use mathlib.Core.Path.{_≡_};
-ghost use Rattle.math.specs.Range.{clampOf, clamp01Of, maxZeroOf, sizeOf};
+ghost use Rattle.math.specs.Range.{clampOf, clamp01Of, maxZeroOf, sizeOf, valueOf, betweenOf};
 
 // Rust's f32::clamp, which panics where lo is above hi or either is a NaN; here lo is then tested first.
 pub fn clamp(x: f32, lo: f32, hi: f32) -> f32
@@ -40,4 +40,18 @@ pub fn size(x: f32) -> f32
     } else {
         x
     }
+}
+
+// From lo to hi; a NaN is not.
+pub fn is_between(x: f32, lo: f32, hi: f32) -> bool
+    ensures { λ r. ⌜ r ≡ betweenOf lo hi x ⌝ }
+{
+    (lo <= x) & (x <= hi)
+}
+
+// Whether x may be a value: finite, and at most 16,777,216 in size.
+pub fn is_value(x: f32) -> bool
+    ensures { λ r. ⌜ r ≡ valueOf x ⌝ }
+{
+    is_between(x, -16777216.0, 16777216.0)
 }
