@@ -1,3 +1,4 @@
 pub mod Rounded
+pub mod Blend
 pub mod Range
 pub mod Whole

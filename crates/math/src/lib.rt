@@ -1,8 +1,10 @@
 // Helpers on one f32, which every layer leans on.
+mod between;
 mod class;
 mod range;
 mod whole;
 
+pub use between::blend;
 pub use class::is_finite;
 pub use class::is_nan;
 pub use range::clamp;
