@@ -1,6 +1,7 @@
 // What kind of float it is.
 ghost use mathlib.Core.Path.{_≡_};
-ghost use lib.Ieee.{isNan};
+ghost use mathlib.Core.Bool.{false};
+ghost use lib.Ieee.{inf, isNan};
 ghost use Rattle.math.specs.Range.{finiteOf};
 
 pub fn is_nan(x: f32) -> bool
@@ -9,10 +10,16 @@ pub fn is_nan(x: f32) -> bool
     x != x
 }
 
+pub fn infinity() -> f32
+    ensures { λ r. ⌜ r ≡ inf false ⌝ }
+{
+    f32::from_bits(0x7f80_0000)
+}
+
 // Neither a NaN nor an infinity.
 pub fn is_finite(x: f32) -> bool
     ensures { λ r. ⌜ r ≡ finiteOf x ⌝ }
 {
-    let top = f32::from_bits(0x7f80_0000);
+    let top = infinity();
     (-top < x) & (x < top)
 }

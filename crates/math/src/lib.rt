@@ -5,6 +5,7 @@ mod range;
 mod whole;
 
 pub use between::blend;
+pub use class::infinity;
 pub use class::is_finite;
 pub use class::is_nan;
 pub use range::clamp;

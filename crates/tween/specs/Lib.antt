@@ -1,0 +1,6 @@
+pub mod Parts
+pub mod Limits
+pub mod Calls
+pub mod Folds
+pub mod Update
+pub mod Promises

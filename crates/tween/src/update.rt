@@ -1,0 +1,153 @@
+// A step in time.
+ghost use mathlib.Core.Path.{_≡_};
+ghost use Prim.Native.Nat.{_≤_};
+ghost use Rattle.math.specs.Rounded.{_⊕_, _⊗_};
+ghost use Rattle.tween.specs.Update.{afterFolds, ran, advanced, waitOf, runOf, updateOf};
+use crate::answers::Updated;
+use crate::fold::Folding;
+use crate::fold::fold_all;
+use crate::fold::is_due;
+use crate::limits::within;
+use crate::record::Tween;
+use crate::record::TweenSnapshot;
+use crate::record::TweenState;
+use crate::record::with_ends;
+use refusal::Refusal;
+
+fn after_folds(waited: f32, p: Folding) -> TweenSnapshot
+    ensures { λ r. ⌜ r ≡ afterFolds waited p ⌝ }
+{
+    let state = if p.completed {
+        TweenState::Completed
+    } else {
+        TweenState::Running
+    };
+    TweenSnapshot {
+        elapsed: p.elapsed,
+        delay_elapsed: waited,
+        loop_count: p.loop_count,
+        ping_pong_reverse: p.ping_pong_reverse,
+        state,
+    }
+}
+
+fn run_to(t: Tween, waited: f32, p: Folding) -> Updated
+    ensures { λ r. ⌜ r ≡ ran t waited p ⌝ }
+{
+    let now = after_folds(waited, p);
+    let next = with_ends(t, t.start, t.end, now);
+    Updated::Ran {
+        tween: next,
+        folds: p.folds,
+        running: !p.completed,
+    }
+}
+
+// The tween runs on with delay_elapsed waited and elapsed e.
+fn advance(t: Tween, waited: f32, e: f32) -> Updated
+    requires { ⌜ t .«loop_count» ≤ 16777216 ⌝ }
+    ensures { λ r. ⌜ r ≡ advanced t waited e ⌝ }
+{
+    let mut first = Folding {
+        elapsed: e,
+        loop_count: t.loop_count,
+        ping_pong_reverse: t.ping_pong_reverse,
+        completed: false,
+        folds: 0,
+    };
+    if t.duration == 0.0 {
+        first.elapsed = 0.0;
+        first.completed = true;
+        return run_to(t, waited, first);
+    }
+    let looping = t.looping;
+    let last = fold_all(looping, t.duration, first);
+    if is_due(t.duration, last) {
+        return Updated::Refused {
+            tween: t,
+            refusal: Refusal::TooManyFolds,
+        };
+    }
+    run_to(t, waited, last)
+}
+
+// A step x from 0 up while Idle: the delay is not scaled, what is left over of the step is.
+fn wait(t: Tween, x: f32) -> Updated
+    requires { ⌜ t .«loop_count» ≤ 16777216 ⌝ }
+    ensures { λ r. ⌜ r ≡ waitOf t x (t .«delay_elapsed» ⊕ x) ⌝ }
+{
+    let waited = t.delay_elapsed + x;
+    if (x > 0.0) & (waited == t.delay_elapsed) {
+        return Updated::Refused {
+            tween: t,
+            refusal: Refusal::StepLost,
+        };
+    }
+    if waited < t.delay {
+        let now = TweenSnapshot {
+            elapsed: t.elapsed,
+            delay_elapsed: waited,
+            loop_count: t.loop_count,
+            ping_pong_reverse: t.ping_pong_reverse,
+            state: TweenState::Idle,
+        };
+        let next = with_ends(t, t.start, t.end, now);
+        return Updated::Ran {
+            tween: next,
+            folds: 0,
+            running: true,
+        };
+    }
+    advance(t, waited, t.elapsed + (waited - t.delay) * t.time_scale)
+}
+
+// A step x from 0 up while Running.
+fn run(t: Tween, x: f32) -> Updated
+    requires { ⌜ t .«loop_count» ≤ 16777216 ⌝ }
+    ensures { λ r. ⌜ r ≡ runOf t x (t .elapsed ⊕ x ⊗ t .«time_scale») ⌝ }
+{
+    let e = t.elapsed + x * t.time_scale;
+    if (x > 0.0) & (t.time_scale > 0.0) & (t.elapsed < t.duration) & (e == t.elapsed) {
+        return Updated::Refused {
+            tween: t,
+            refusal: Refusal::StepLost,
+        };
+    }
+    advance(t, t.delay_elapsed, e)
+}
+
+impl Tween {
+    // Moves on by step seconds. Refused: 4, 5 for a step above 16,777,216, 6 for a step that is lost, 7 for one that needs more than 4,096 folds.
+    pub fn update(self, step: f32) -> Updated
+        ensures { λ r. ⌜ r ≡ updateOf self step ⌝ }
+    {
+        if !within(self) {
+            return Updated::Refused {
+                tween: self,
+                refusal: Refusal::RecordBreaksLimit,
+            };
+        }
+        if step > 16777216.0 {
+            return Updated::Refused {
+                tween: self,
+                refusal: Refusal::StepTooLong,
+            };
+        }
+        let x = math::max_zero(step);
+        let state = self.state;
+        match state {
+            TweenState::Idle => wait(self, x),
+            TweenState::Running => run(self, x),
+            TweenState::Paused => Updated::Ran {
+                tween: self,
+                folds: 0,
+                running: true,
+            },
+            TweenState::Completed => Updated::Ran {
+                tween: self,
+                folds: 0,
+                running: false,
+            },
+        }
+    }
+}
