@@ -12,6 +12,8 @@ use Rattle.tween.specs.declared.record.TweenState.the-variants.{Idle, Ru
 use Rattle.tween.specs.declared.answers.Updated.{Updated}
 use Rattle.tween.specs.declared.answers.Updated.the-variants.{Ran, Refused}
 use Rattle.tween.specs.declared.fold.Folding.{Folding}
+use Rattle.tween.specs.declared.update.Begun.{Begun}
+use Rattle.tween.specs.declared.update.Begun.the-variants.{Still, Lost, Waits, Runs}
 use Rattle.tween.specs.Parts.{put}
 use Rattle.tween.specs.Limits.{withinOf}
 use Rattle.tween.specs.Folds.{due, foldsOf}
@@ -85,3 +87,10 @@ unfoldable pub updateOf : Tween → Float → Updated
 updateOf t x =
     cond (withinOf t) (cond (lt topF x) (Refused t StepTooLong) (byState (t .state) t (maxZeroOf x)))
     (Refused t RecordBreaksLimit)
+
+-- what a step comes to, by how it begins: an inner step of the code
+abbrev pub finishOf : Tween → Begun → Updated
+finishOf t (Still running) = Ran t 0 running
+finishOf t Lost = Refused t StepLost
+finishOf t (Waits w) = Ran (put (waiting t w) t) 0 true
+finishOf t (Runs w e) = advanced t w e

@@ -2,7 +2,7 @@
 ghost use mathlib.Core.Path.{_≡_};
 ghost use Prim.Native.Nat.{_≤_};
 ghost use Rattle.math.specs.Rounded.{_⊕_, _⊗_};
-ghost use Rattle.tween.specs.Update.{afterFolds, ran, advanced, waitOf, runOf, updateOf};
+ghost use Rattle.tween.specs.Update.{afterFolds, ran, advanced, waitOf, runOf, byState, finishOf, updateOf};
 use crate::answers::Updated;
 use crate::fold::Folding;
 use crate::fold::fold_all;
@@ -71,49 +71,90 @@ fn advance(t: Tween, waited: f32, e: f32) -> Updated
     run_to(t, waited, last)
 }
 
+// How a step begins. The rest of the update is one place, so that it can be inlined.
+pub enum Begun {
+    // Paused or Completed.
+    Still(bool),
+    Lost,
+    // Within the delay, with this delay_elapsed.
+    Waits(f32),
+    Runs { waited: f32, elapsed: f32 },
+}
+
 // A step x from 0 up while Idle: the delay is not scaled, what is left over of the step is.
-fn wait(t: Tween, x: f32) -> Updated
-    requires { ⌜ t .«loop_count» ≤ 16777216 ⌝ }
-    ensures { λ r. ⌜ r ≡ waitOf t x (t .«delay_elapsed» ⊕ x) ⌝ }
+fn wait(t: Tween, x: f32) -> Begun
+    ensures { λ r. ⌜ finishOf t r ≡ waitOf t x (t .«delay_elapsed» ⊕ x) ⌝ }
 {
     let waited = t.delay_elapsed + x;
     if (x > 0.0) & (waited == t.delay_elapsed) {
-        return Updated::Refused {
-            tween: t,
-            refusal: Refusal::StepLost,
-        };
+        return Begun::Lost;
     }
     if waited < t.delay {
-        let now = TweenSnapshot {
-            elapsed: t.elapsed,
-            delay_elapsed: waited,
-            loop_count: t.loop_count,
-            ping_pong_reverse: t.ping_pong_reverse,
-            state: TweenState::Idle,
-        };
-        let next = with_ends(t, t.start, t.end, now);
-        return Updated::Ran {
-            tween: next,
-            folds: 0,
-            running: true,
-        };
+        return Begun::Waits(waited);
     }
-    advance(t, waited, t.elapsed + (waited - t.delay) * t.time_scale)
+    Begun::Runs {
+        waited,
+        elapsed: t.elapsed + (waited - t.delay) * t.time_scale,
+    }
 }
 
 // A step x from 0 up while Running.
-fn run(t: Tween, x: f32) -> Updated
-    requires { ⌜ t .«loop_count» ≤ 16777216 ⌝ }
-    ensures { λ r. ⌜ r ≡ runOf t x (t .elapsed ⊕ x ⊗ t .«time_scale») ⌝ }
+fn run(t: Tween, x: f32) -> Begun
+    ensures { λ r. ⌜ finishOf t r ≡ runOf t x (t .elapsed ⊕ x ⊗ t .«time_scale») ⌝ }
 {
     let e = t.elapsed + x * t.time_scale;
     if (x > 0.0) & (t.time_scale > 0.0) & (t.elapsed < t.duration) & (e == t.elapsed) {
-        return Updated::Refused {
+        return Begun::Lost;
+    }
+    Begun::Runs {
+        waited: t.delay_elapsed,
+        elapsed: e,
+    }
+}
+
+fn begin(t: Tween, x: f32) -> Begun
+    ensures { λ r. ⌜ finishOf t r ≡ byState (t .state) t x ⌝ }
+{
+    let state = t.state;
+    match state {
+        TweenState::Idle => wait(t, x),
+        TweenState::Running => run(t, x),
+        TweenState::Paused => Begun::Still(true),
+        TweenState::Completed => Begun::Still(false),
+    }
+}
+
+fn finish(t: Tween, begun: Begun) -> Updated
+    requires { ⌜ t .«loop_count» ≤ 16777216 ⌝ }
+    ensures { λ r. ⌜ r ≡ finishOf t begun ⌝ }
+{
+    match begun {
+        Begun::Still(running) => Updated::Ran {
+            tween: t,
+            folds: 0,
+            running,
+        },
+        Begun::Lost => Updated::Refused {
             tween: t,
             refusal: Refusal::StepLost,
-        };
+        },
+        Begun::Waits(waited) => {
+            let now = TweenSnapshot {
+                elapsed: t.elapsed,
+                delay_elapsed: waited,
+                loop_count: t.loop_count,
+                ping_pong_reverse: t.ping_pong_reverse,
+                state: TweenState::Idle,
+            };
+            let next = with_ends(t, t.start, t.end, now);
+            Updated::Ran {
+                tween: next,
+                folds: 0,
+                running: true,
+            }
+        }
+        Begun::Runs { waited, elapsed } => advance(t, waited, elapsed),
     }
-    advance(t, t.delay_elapsed, e)
 }
 
 impl Tween {
@@ -133,21 +174,6 @@ impl Tween {
                 refusal: Refusal::StepTooLong,
             };
         }
-        let x = math::max_zero(step);
-        let state = self.state;
-        match state {
-            TweenState::Idle => wait(self, x),
-            TweenState::Running => run(self, x),
-            TweenState::Paused => Updated::Ran {
-                tween: self,
-                folds: 0,
-                running: true,
-            },
-            TweenState::Completed => Updated::Ran {
-                tween: self,
-                folds: 0,
-                running: false,
-            },
-        }
+        finish(self, begin(self, math::max_zero(step)))
     }
 }

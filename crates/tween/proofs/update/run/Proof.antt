@@ -1,5 +1,4 @@
--- `run` meets its contract, by what `advance` ensures. Assumes nothing.
-use borrow.Author.Needs.{needs}
+-- `run` meets its contract. Assumes nothing.
 use lib.Ieee.{ofBits}
 use Rattle.tween.specs.Update.{runOf}
 use Rattle.tween.proofs.update.run.Statement.{statement}
@@ -7,4 +6,4 @@ use Rattle.tween.proofs.update.run.Tie as tie
 
 pub run-spec : {M : Type 1} → statement M
 unfolding runOf ofBits
-run-spec = tie.close (tie.spec (λ c. simp (c .if1 .taken)) (λ c κs. search needs) (λ c. simp (c .before .if1 .left, c .advance .ensures)))
+run-spec = tie.close (tie.spec (λ c. simp (c .if1 .taken)) (λ c. simp (c .if1 .left)))

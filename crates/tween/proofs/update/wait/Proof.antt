@@ -1,8 +1,7 @@
--- `wait` meets its contract, by what its callees ensure. Assumes nothing.
-use borrow.Author.Needs.{needs}
-use mathlib.Core.Path.{_≡_, _∙_}
+-- `wait` meets its contract. Assumes nothing.
+use mathlib.Core.Path.{_≡_, sym}
 use mathlib.Core.Bool.{false, _&&_}
-use lib.Ieee.{Float, lt, eq}
+use lib.Ieee.{Float, ofBits, lt, eq}
 use Rattle.math.specs.Rounded.{zeroF, _⊕_, _⊖_, _⊗_}
 use Rattle.tween.specs.declared.record.Tween.{Tween}
 use Rattle.tween.specs.Update.{advanced, waitOf}
@@ -16,12 +15,10 @@ unfolding waitOf
 over t x w a b = rw (a, b)
 
 pub wait-spec : {M : Type 1} → statement M
-unfolding waitOf
+unfolding waitOf ofBits
 wait-spec =
     tie.close
     (tie.spec
     (λ c. simp (c .if1 .taken))
-    (λ c κs. search needs)
-    (λ c. simp (c .before .before .before .if1 .left, c .before .if2 .taken, c .with-ends .ensures))
-    (λ c κs. search needs)
-    (λ c. c .advance .ensures ∙ over _ _ _ (c .before .before .before .before .before .before .if1 .left) (c .before .before .before .before .if2 .left)))
+    (λ c. simp (c .before .before .if1 .left, c .if2 .taken))
+    (λ c. over _ _ _ (c .before .before .before .before .before .if1 .left) (c .before .before .before .if2 .left)))

@@ -1,13 +1,13 @@
--- `update` meets its contract: each arm is told its state. Assumes nothing.
+-- `update` meets its contract: what is left, once it has begun, is the definition by state. Assumes nothing.
 use borrow.Author.Needs.{needs}
 use lib.Ieee.{ofBits}
 use Rattle.tween.proofs.Told.{fails, passes, within-count}
-use Rattle.tween.specs.Update.{byState, updateOf}
+use Rattle.tween.specs.Update.{updateOf}
 use Rattle.tween.proofs.record.Tween.update.Statement.{statement}
 use Rattle.tween.proofs.record.Tween.update.Tie as tie
 
 pub update-spec : {M : Type 1} → statement M
-unfolding updateOf byState ofBits
+unfolding updateOf ofBits
 update-spec =
     tie.close
     (tie.spec
@@ -15,13 +15,6 @@ update-spec =
     (λ c. simp (fails _ _ (c .before .within .ensures) (c .if1 .taken)))
     (λ c. simp (passes _ _ (c .before .before .within .ensures) (c .before .if1 .left), c .if2 .taken))
     (λ c κs. search needs)
-    (λ c. search needs)
-    (λ c κs. within-count _ (passes _ _ (c .before .before .before .before .before .within .ensures) (c .before .before .before .before .if1 .left)))
-    (λ c. search needs)
-    (λ c κs. within-count _ (passes _ _ (c .before .before .before .before .before .within .ensures) (c .before .before .before .before .if1 .left)))
-    (λ c. search needs)
-    (λ c. search needs)
-    (λ c. simp (passes _ _ (c .before .before .before .before .before .before .within .ensures) (c .before .before .before .before .before .if1 .left), c .before .before .before .before .if2 .left, c .before .enum-told .given .1, c .wait .ensures, c .before .before .before .max-zero .ensures))
-    (λ c. simp (passes _ _ (c .before .before .before .before .before .before .within .ensures) (c .before .before .before .before .before .if1 .left), c .before .before .before .before .if2 .left, c .before .enum-told2 .given .1, c .run .ensures, c .before .before .before .max-zero .ensures))
-    (λ c. simp (passes _ _ (c .before .before .before .before .before .within .ensures) (c .before .before .before .before .if1 .left), c .before .before .before .if2 .left, c .enum-told3 .given .1))
-    (λ c. simp (passes _ _ (c .before .before .before .before .before .within .ensures) (c .before .before .before .before .if1 .left), c .before .before .before .if2 .left, c .enum-told4 .given .1)))
+    (λ c κs. search needs)
+    (λ c κs. within-count _ (passes _ _ (c .before .before .before .before .within .ensures) (c .before .before .before .if1 .left)))
+    (λ c. simp (passes _ _ (c .before .before .before .before .before .within .ensures) (c .before .before .before .before .if1 .left), c .before .before .before .if2 .left, c .finish .ensures, c .before .begin .ensures, c .before .before .max-zero .ensures)))
