@@ -1,5 +1,5 @@
 -- Document 01, "The tween" and "Refusal numbers": the calls that read a tween, and those that change it, but for `update`. Each refuses 4 first.
-use mathlib.Core.Bool.{Bool, true, false, cond}
+use mathlib.Core.Bool.{false, cond}
 use lib.IntN.{pos}
 use lib.Ieee.{Float, inf, binary32, ofInt, lt, eq, isNan}
 use Rattle.math.specs.Rounded.{zeroF, oneF, _⊕_, _⊖_, _⊗_, _⊘_}

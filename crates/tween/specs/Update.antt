@@ -1,6 +1,5 @@
 -- Document 01, "The tween": `update`.
-use Prim.Native.Nat.{ℕ}
-use mathlib.Core.Bool.{Bool, true, false, not, _&&_, cond}
+use mathlib.Core.Bool.{true, false, not, _&&_, cond}
 use lib.Ieee.{Float, lt, eq}
 use Rattle.math.specs.Rounded.{zeroF, topF, _⊕_, _⊖_, _⊗_}
 use Rattle.math.specs.Range.{maxZeroOf}

@@ -1,5 +1,5 @@
 -- `wait` meets its contract. Assumes nothing.
-use mathlib.Core.Path.{_≡_, sym}
+use mathlib.Core.Path.{_≡_}
 use mathlib.Core.Bool.{false, _&&_}
 use lib.Ieee.{Float, ofBits, lt, eq}
 use Rattle.math.specs.Rounded.{zeroF, _⊕_, _⊖_, _⊗_}
