@@ -54,7 +54,7 @@ accepted = refl
 steps : List Act
 steps = step 3 ∷ step 5 ∷ step 100 ∷ []
 
-end-of : Past
+pub end-of : Past
 end-of = afterAll (fresh (put (atStart t) t)) steps
 
 -- H is 108 and A 106
