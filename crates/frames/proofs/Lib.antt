@@ -1,0 +1,6 @@
+pub mod Halves
+pub mod Rising
+mod Places
+mod Shifts
+pub mod Walks
+mod Zeros
