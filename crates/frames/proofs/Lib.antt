@@ -1,5 +1,6 @@
 pub mod Halves
 pub mod Rising
+pub mod Picks
 mod Places
 mod Shifts
 pub mod Walks
