@@ -1,1 +1,2 @@
 pub mod Records
+mod Changes

@@ -1,5 +1,6 @@
 // Keyframe tracks: a value along frames at ascending times.
 mod batch;
+mod handed;
 mod limits;
 mod playback;
 mod pushes;

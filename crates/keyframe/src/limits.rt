@@ -1,6 +1,7 @@
 // The limits of a track.
 ghost use mathlib.Core.Path.{_≡_};
-ghost use Rattle.keyframe.specs.Limits.{endOf, modeFits, clockFits, withinOf, overPasses};
+ghost use Prim.Native.Nat.{_≤_};
+ghost use Rattle.keyframe.specs.Limits.{baseOf, endOf, modeFits, clockFits, withinOf, overPasses};
 use crate::types::End;
 use crate::types::Track;
 use loop_mode::Loop;
@@ -39,6 +40,18 @@ fn clock_fits(elapsed: f32, looping: Loop, base: f32) -> bool
     ensures { λ r. ⌜ r ≡ clockFits elapsed looping base ⌝ }
 {
     math::is_between(elapsed, 0.0, 16777216.0) & mode_fits(looping, base)
+}
+
+// The last time, and 0 where there is no frame.
+pub fn last_time(track: Track) -> f32
+    requires { ⌜ track .count ≤ 64 ⌝ }
+    ensures { λ r. ⌜ r ≡ baseOf track ⌝ }
+{
+    let n = track.count;
+    if n == 0 {
+        return 0.0;
+    }
+    track.frames[n - 1].time
 }
 
 impl Track {
