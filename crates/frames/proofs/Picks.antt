@@ -123,3 +123,9 @@ module _ (fs : List Keyframe) (n : ℕ) (some : 1 ≤ n) (fit : n ≤ length fs)
         by-test (λ (v : Float). pickOf (getD fs 0 noFrame) (getD fs (n - 1) noFrame) (getD fs (halved (timesOf fs) t (n - 1)) noFrame) (getD fs (halved (timesOf fs) t (n - 1) + 1) noFrame) t ≡ v) (eqb (length (take n fs)) 1) _ _
         (λ e. let o : n ≡ 1 = sym long ∙ eqb-true (length (take n fs)) 1 e in rw (single o, at 0 some))
         (λ e. at-time t real ∙ ap (atOf (take n fs)) (cut ∙ rw last-at))
+
+  -- the same, of what the calls on the way answer
+  pub picked-by : (secs x t v : Float) (starts : List Float) (low : ℕ) → x ≡ maxZeroOf secs → t ≡ cutOf x (getD fs (n - 1) noFrame .time) → starts ≡ timesOf fs → low ≡ halved starts t (n - 1)
+      → v ≡ pickOf (getD fs 0 noFrame) (getD fs (n - 1) noFrame) (getD fs low noFrame) (getD fs (low + 1) noFrame) t
+      → v ≡ sampleOf (take n fs) secs
+  picked-by secs x t v starts low ex et es el ev = ev ∙ (rw (el, es) (picked secs t (rw ex at et)))

@@ -1,2 +1,3 @@
-pub mod Records
 mod Changes
+mod Fillings
+pub mod Records

@@ -1,2 +1,6 @@
+pub mod Refusing
 pub mod Limits
 pub mod Pushing
+pub mod Playback
+pub mod Sampling
+pub mod Batch

@@ -22,6 +22,7 @@ use Rattle.keyframe.specs.declared.types.Track.{Track}
 use Rattle.keyframe.specs.declared.types.Changed.{Changed}
 use Rattle.keyframe.specs.declared.types.Outcome.the-variants.{Done, Refused}
 use Rattle.keyframe.specs.Limits.{baseOf, modeFits, withinOf}
+use Rattle.keyframe.specs.Refusing.{unless}
 
 -- "Each refusal hands back the record unchanged .. and the number"
 abbrev pub refused : Track → Refusal → Changed
@@ -29,10 +30,6 @@ refused t r = record { track = t; outcome = Refused r }
 
 abbrev pub changed : Track → Changed
 changed t = record { track = t; outcome = Done }
-
--- refused unless a test passes
-abbrev pub unless : Track → Bool → Refusal → Changed → Changed
-unless t ok r next = cond ok next (refused t r)
 
 -- no frames, Once, as in the source
 unfoldable pub newTrack : Track
@@ -88,12 +85,12 @@ placedOf t p = cond (p .full) (refused t TrackFull) (changed (withFrames t (p .f
 -- the order of the refusals: 4, 2, 3, 11, 9
 unfoldable pub pushOf : Track → Float → Float → Easing → Changed
 pushOf t time value e =
-    unless t (withinOf t) RecordBreaksLimit
-    (unless t (suppliedOf e) EasingNotSupplied
-    (unless t (params.withinOf (params.paramsOf e)) EasingParameter
-    (unless t (takesOf t (storedOf time) value) TrackLimit
+    unless (withinOf t) (refused t RecordBreaksLimit)
+    (unless (suppliedOf e) (refused t EasingNotSupplied)
+    (unless (params.withinOf (params.paramsOf e)) (refused t EasingParameter)
+    (unless (takesOf t (storedOf time) value) (refused t TrackLimit)
     (placedOf t (putOf (t .frames) (t .count) (record { time = storedOf time; value = value; easing = e }))))))
 
 -- 4, then 11: "a push or change of mode would break a track's pass or total limit"
 unfoldable pub loopingOf : Track → Loop → Changed
-loopingOf t m = unless t (withinOf t) RecordBreaksLimit (unless t (modeFits m (baseOf t)) TrackLimit (changed (withMode t m)))
+loopingOf t m = unless (withinOf t) (refused t RecordBreaksLimit) (unless (modeFits m (baseOf t)) (refused t TrackLimit) (changed (withMode t m)))

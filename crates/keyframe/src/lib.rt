@@ -4,7 +4,7 @@ mod handed;
 mod limits;
 mod playback;
 mod pushes;
-mod steps;
+mod sampling;
 mod types;
 
 pub use types::Changed;
