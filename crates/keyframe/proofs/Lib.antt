@@ -1,3 +1,4 @@
+pub mod Batches
 mod Changes
 mod Fillings
 pub mod Records
