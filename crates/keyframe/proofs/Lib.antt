@@ -1,4 +1,5 @@
 pub mod Batches
 mod Changes
 mod Fillings
+mod Moves
 pub mod Records

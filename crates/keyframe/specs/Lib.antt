@@ -4,3 +4,4 @@ pub mod Pushing
 pub mod Playback
 pub mod Sampling
 pub mod Batch
+pub mod Stepping

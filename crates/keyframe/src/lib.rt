@@ -5,6 +5,7 @@ mod limits;
 mod playback;
 mod pushes;
 mod sampling;
+mod steps;
 mod types;
 
 pub use types::Changed;
