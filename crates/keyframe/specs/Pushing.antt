@@ -49,7 +49,7 @@ storedOf time = cond (eq time zeroF) zeroF time
 
 -- the last time, once a frame at `time` is in
 abbrev pub laterOf : Float → Float → Float
-laterOf base time = cond (lt base time) time base
+laterOf base time = cond (lt time base) base time
 
 -- "a pushed time or value breaks a frame limit, or a push .. would break a track's pass or total limit"
 unfoldable pub takesOf : Track → Float → Float → Bool

@@ -24,7 +24,7 @@ fn stored(time: f32) -> f32
 fn later(base: f32, time: f32) -> f32
     ensures { λ r. ⌜ r ≡ laterOf base time ⌝ }
 {
-    if base < time { time } else { base }
+    if time < base { base } else { time }
 }
 
 // Whether a frame with this time and value, and the total with it in, are within their limits.
