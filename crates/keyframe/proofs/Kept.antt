@@ -15,17 +15,24 @@ use Rattle.math.specs.Whole.{Is}
 use Rattle.math.specs.Rounded.{_⊕_, _⊗_, zeroF, topF}
 use Rattle.math.specs.Range.{finiteOf, valueOf, betweenOf, clamp01Of, maxZeroOf}
 use Rattle.math.proofs.Choice.{by-test, and-both}
-use Rattle.math.proofs.Order.{le-numbers, le-chain, lt-le, lt-of-not-le, le-of-not-lt}
+use Rattle.math.proofs.Order.{le-numbers, le-chain, lt-le, lt-le-chain, lt-of-not-le, le-of-not-lt}
 use Rattle.math.proofs.Upward.{Up, add-up, mul-up, max-zero-up}
 use Rattle.math.proofs.Sizes.{at-most-finite, is-at-most}
 use Rattle.math.proofs.Ranges.{clamped}
 use Rattle.math.proofs.Wholes.{whole-is, zero-is, le-is}
+use Rattle.easing.specs.declared.kinds.Easing.{Easing}
+use Rattle.easing.specs.Kinds.{suppliedOf}
+use Rattle.easing.specs.Params as params
+use Rattle.easing.specs.Apply.{fitsRecordOf}
 use Rattle.loop_mode.specs.declared.Loop.{Loop}
 use Rattle.loop_mode.specs.declared.Loop.the-variants.{Once, Times, Forever, PingPong, PingPongTimes}
 use Rattle.loop_mode.specs.Passes as passes
 use Rattle.frames.specs.declared.frame.Keyframe.{Keyframe}
 use Rattle.frames.specs.Limits.{timeOf, frameOf, framesAfter, framesOf, beforeAll, noFrame}
+use Rattle.frames.specs.declared.frame.Put.{Put}
 use Rattle.frames.specs.Sampling.{durationOf, lastOf}
+use Rattle.frames.specs.Pushing.{pushedOf, putOf}
+use Rattle.frames.proofs.Pushed.{pushed-fine, pushed-last}
 use Rattle.frames.proofs.Rising.{holds, each-fine, time-fine}
 use Rattle.frames.proofs.Tops.{Clock, clock-finite, clock-test, test-clock, time-clock, shrunk-clock}
 use Rattle.keyframe.specs.declared.types.Track.{Track}
@@ -34,7 +41,7 @@ use Rattle.keyframe.specs.declared.types.Updated.{Updated}
 use Rattle.keyframe.specs.declared.types.End.{End}
 use Rattle.keyframe.specs.declared.types.End.the-variants.{At, Never}
 use Rattle.keyframe.specs.Limits.{framesIn, baseOf, overPasses, endOf, totalFits, modeFits, clockFits, withinOf}
-use Rattle.keyframe.specs.Pushing.{newTrack, withMode, loopingOf}
+use Rattle.keyframe.specs.Pushing.{newTrack, storedOf, laterOf, takesOf, withFrames, withMode, placedOf, pushOf, loopingOf}
 use Rattle.keyframe.specs.Playback.{doneOf}
 use Rattle.keyframe.specs.Stepping.{movedOf, lostOf, finalOf, passedOf, advanceOf, updateOf, resetOf, spanIn, soughtOf, seekToOf}
 use Rattle.keyframe.proofs.Records.{few-frames, frames-fine, elapsed-fine, mode-fine}
@@ -148,3 +155,47 @@ module _ (t : Track) (fine : Fine t) where
       (by-test (λ (r : Changed). Fine (r .track)) (modeFits m (baseOf t)) _ _
       (λ h. make (withMode t m) (few-frames t fine) (frames-fine t fine) (test-clock (t .elapsed) (elapsed-fine t fine)) h)
       (λ _. fine))
+
+-- push
+before-zero : T (lt beforeAll zeroF)
+unfolding lt ofBits
+before-zero = tt
+
+module _ (t : Track) (fine : Fine t) (k : Keyframe) (good : frameOf k ≡ true) (fits : modeFits (t .looping) (laterOf (baseOf t) (k .time)) ≡ true) where
+  clock : Clock (k .time)
+  clock = time-clock (k .time) (time-fine k good)
+
+  grown-fine : framesOf (pushedOf k (framesIn t)) ≡ true
+  grown-fine = pushed-fine k good beforeAll (framesIn t) (lt-le-chain beforeAll zeroF (k .time) before-zero (clock .0)) (frames-fine t fine)
+
+  grown-mode : modeFits (t .looping) (durationOf (pushedOf k (framesIn t))) ≡ true
+  grown-mode = rw (pushed-last k (le-numbers zeroF (k .time) (clock .0) .1) (clock .0) (framesIn t) (frames-fine t fine)) fits
+
+  placed-within : Fine (placedOf t (putOf (t .frames) (t .count) k) .track)
+  unfolding putOf placedOf
+  placed-within =
+      let l = pushedOf k (framesIn t) in
+      by-test (λ (p : Put). Fine (placedOf t p .track)) (leb (length l) 64) (record { frames = l ++ drop (length l) (t .frames); count = length l; full = false }) (record { frames = t .frames; count = t .count; full = true })
+      (λ h.
+      let e : take (length l) (l ++ drop (length l) (t .frames)) ≡ l = take-at l (drop (length l) (t .frames)) (length l) refl in
+      make (withFrames t (l ++ drop (length l) (t .frames)) (length l)) (leb-true (length l) 64 h) (rw e grown-fine) (test-clock (t .elapsed) (elapsed-fine t fine)) (rw e grown-mode))
+      (λ _. fine)
+
+pub push-within : (t : Track) → Fine t → (time value : Float) (e : Easing) → Fine (pushOf t time value e .track)
+unfolding pushOf takesOf frameOf fitsRecordOf
+push-within t fine time value e =
+    rw fine
+    (by-test (λ (r : Changed). Fine (r .track)) (suppliedOf e) _ _
+    (λ s.
+    by-test (λ (r : Changed). Fine (r .track)) (params.withinOf (params.paramsOf e)) _ _
+    (λ p. by-test (λ (r : Changed). Fine (r .track)) (takesOf t (storedOf time) value) _ _ (λ h. placed-within t fine (record { time = storedOf time; value = value; easing = e }) (framed (storedOf time) h s p) (fitting (storedOf time) h)) (λ _. fine))
+    (λ _. fine))
+    (λ _. fine))
+  where
+    framed : (x : Float) → takesOf t x value ≡ true → suppliedOf e ≡ true → params.withinOf (params.paramsOf e) ≡ true → frameOf (record { time = x; value = value; easing = e }) ≡ true
+    framed x h s p =
+        let a = and-both (timeOf x && valueOf value) (modeFits (t .looping) (laterOf (baseOf t) x)) h .0 in
+        rw (and-both (timeOf x) (valueOf value) a .0, and-both (timeOf x) (valueOf value) a .1, s, p)
+
+    fitting : (x : Float) → takesOf t x value ≡ true → modeFits (t .looping) (laterOf (baseOf t) x) ≡ true
+    fitting x h = and-both (timeOf x && valueOf value) (modeFits (t .looping) (laterOf (baseOf t) x)) h .1
