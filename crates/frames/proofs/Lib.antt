@@ -3,6 +3,7 @@ pub mod Pushed
 pub mod Rising
 pub mod Picks
 mod Places
+pub mod Samples
 mod Shifts
 pub mod Tops
 pub mod Walks

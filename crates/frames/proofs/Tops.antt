@@ -23,7 +23,7 @@ use Rattle.frames.proofs.Rising.{holds, time-top}
 abbrev pub Clock : Float → Type 0
 Clock x = Up x × T (le x topF)
 
-top-is : Is topF 16777216
+pub top-is : Is topF 16777216
 unfolding ofBits
 top-is = (refl, refl)
 

@@ -7,6 +7,7 @@ use native.Mathlib.Numerals.{add-one}
 use native.Mathlib.Omega.{arith}
 use lib.ListN.{length, take, drop, getD}
 use lib.Seq.{drop-cons, getD-take, length-take-le, drop-length}
+use Rattle.math.proofs.Choice.{by-test}
 use mir.Val.{Val}
 use denote.Laws.{Is}
 use denote.Array.{Array}
@@ -54,3 +55,17 @@ lead-is q [] zero h all next = refl
 lead-is q [] (suc m) h all next = absurd (omega (arith, h))
 lead-is q (k ∷ ks) zero h all next = rw (next (omega arith))
 lead-is q (k ∷ ks) (suc m) h all next = rw (all 0 (omega arith)) (ap suc (lead-is q ks m (omega (arith, h)) (λ j b. all (suc j) (omega (arith, b))) (λ b. next (omega (arith, b)))))
+
+-- at least one passes where the first does; none from one that fails on
+pub lead-some : (q : Keyframe → Bool) (l : List Keyframe) → 0 < length l → q (getD l 0 noFrame) ≡ true → 0 < leading q l
+unfolding leading
+lead-some q [] h e = absurd (omega (arith, h))
+lead-some q (k ∷ ks) h e = rw e (omega arith)
+
+pub lead-below : (q : Keyframe → Bool) (l : List Keyframe) (i : ℕ) → i < length l → q (getD l i noFrame) ≡ false → leading q l ≤ i
+unfolding leading
+lead-below q [] i h e = absurd (omega (arith, h))
+lead-below q (k ∷ ks) zero h e = rw e (omega arith)
+lead-below q (k ∷ ks) (suc i) h e =
+    let r = lead-below q ks i (omega (arith, h)) e in
+    by-test (λ (m : ℕ). m ≤ suc i) (q k) (suc (leading q ks)) 0 (λ _. omega (arith, r)) (λ _. omega arith)
