@@ -1,3 +1,4 @@
+mod Blends
 pub mod Halves
 pub mod Pushed
 pub mod Rising
@@ -5,6 +6,7 @@ pub mod Picks
 mod Places
 pub mod Samples
 mod Shifts
+mod Starts
 pub mod Tops
 pub mod Walks
 mod Zeros
