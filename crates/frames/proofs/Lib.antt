@@ -2,6 +2,7 @@ mod Blends
 pub mod Halves
 pub mod Pushed
 pub mod Rising
+pub mod Owned
 pub mod Picks
 mod Places
 pub mod Samples

@@ -32,7 +32,7 @@ pub times-at : (fs : List Keyframe) (i : ℕ) → getD (timesOf fs) i nan ≡ ge
 times-at fs i = List·getD-map (λ (k : Keyframe). k .time) fs i noFrame
 
 -- the frames of an interval of ascending times are the last at or before t, and the next
-passed-interval : (l : List Keyframe) (t : Float) (i : ℕ) → framesOf l ≡ true → i + 1 < length l → le (getD l i noFrame .time) t ≡ true → le (getD l (i + 1) noFrame .time) t ≡ false → passedOf t l ≡ i + 1
+pub passed-interval : (l : List Keyframe) (t : Float) (i : ℕ) → framesOf l ≡ true → i + 1 < length l → le (getD l i noFrame .time) t ≡ true → le (getD l (i + 1) noFrame .time) t ≡ false → passedOf t l ≡ i + 1
 passed-interval l t i f h a z =
     lead-is (λ (k : Keyframe). le (k .time) t) l (i + 1) (omega arith)
     (λ j b. ⊎-elim (λ (e : j ≡ i). rw e a) (λ (e : j < i). is-true (le (getD l j noFrame .time) t) (earlier j e)) (below j i b))

@@ -50,17 +50,17 @@ module _ (t x y : Float) (ct : Clock t) (cx : Clock x) (cy : Clock y) where
   apart-finite : (u v : Float) → Clock u → Clock v → T (finiteOf (u ⊖ v))
   apart-finite u v cu cv = at-most-finite 16777216 (u ⊖ v) (sub-near binary32 16777216 held-24 u v (cu .0) (cv .0) (clock-most u cu) (clock-most v cv))
 
-  span-finite : T (finiteOf (spanOf (y ⊖ x)))
+  pub span-finite : T (finiteOf (spanOf (y ⊖ x)))
   span-finite = by-test (λ (z : Float). T (finiteOf z)) (lt epsilon (y ⊖ x)) (y ⊖ x) epsilon (λ _. apart-finite y x cy cx) (λ _. epsilon-finite)
 
-  span-above : T (lt zeroF (spanOf (y ⊖ x)))
+  pub span-above : T (lt zeroF (spanOf (y ⊖ x)))
   span-above = by-test (λ (z : Float). T (lt zeroF z)) (lt epsilon (y ⊖ x)) (y ⊖ x) epsilon (λ h. lt-le-chain zeroF epsilon (y ⊖ x) epsilon-above (lt-le epsilon (y ⊖ x) (holds (lt epsilon (y ⊖ x)) h))) (λ _. epsilon-above)
 
   pub local-within : Within (clamp01Of ((t ⊖ x) ⊘ spanOf (y ⊖ x)))
   local-within = clamped ((t ⊖ x) ⊘ spanOf (y ⊖ x)) (div-number binary32 (t ⊖ x) (spanOf (y ⊖ x)) (apart-finite t x ct cx) span-finite (lt-not-eq zeroF (spanOf (y ⊖ x)) span-above))
 
 -- a blend of two values by an eased progress
-held-25 : Is (ofInt binary32 (pos 33554432)) 33554432
+pub held-25 : Is (ofInt binary32 (pos 33554432)) 33554432
 unfolding ofInt
 held-25 = (refl, refl)
 
@@ -72,7 +72,7 @@ held-53 : Is (ofInt binary32 (pos 9007199254740992)) 9007199254740992
 unfolding ofInt
 held-53 = (refl, refl)
 
-value-most : (x : Float) → valueOf x ≡ true → AtMost 16777216 x
+pub value-most : (x : Float) → valueOf x ≡ true → AtMost 16777216 x
 value-most x h = size-at-most 16777216 x topF top-is (holds (valueOf x) h)
 
 eased-most : (e : Easing) (p : Float) → AtMost 134217728 (easedOf e p)

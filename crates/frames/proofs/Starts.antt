@@ -69,7 +69,7 @@ eased-from none fine s = zero-eq
 eased-from (some f) true s = s
 eased-from (some f) false s = zero-eq
 
-zero-clamped : clamp01Of zeroF ≡ zeroF
+pub zero-clamped : clamp01Of zeroF ≡ zeroF
 unfolding lt ofBits
 zero-clamped = refl
 
