@@ -29,7 +29,7 @@ module _ (x y : Float) (p : isNan x ≡ false) (q : isNan y ≡ false) (h : lt x
       go true k = tt
       go false k = absurd (rw (h, e) at (le-of-not-lt y x q p k))
 
-eq-le : (x y : Float) → eq x y ≡ true → T (le x y)
+pub eq-le : (x y : Float) → eq x y ≡ true → T (le x y)
 unfolding le
 eq-le x y e = rw e (or-true (lt x y))
   where

@@ -3,4 +3,5 @@ mod Changes
 mod Fillings
 pub mod Kept
 mod Moves
+pub mod Promises
 pub mod Records
