@@ -1,3 +1,4 @@
+pub mod Answering
 mod Blends
 pub mod Halves
 pub mod Pushed

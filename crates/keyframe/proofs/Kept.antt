@@ -40,14 +40,11 @@ use Rattle.keyframe.specs.declared.types.Changed.{Changed}
 use Rattle.keyframe.specs.declared.types.Updated.{Updated}
 use Rattle.keyframe.specs.declared.types.End.{End}
 use Rattle.keyframe.specs.declared.types.End.the-variants.{At, Never}
-use Rattle.keyframe.specs.Limits.{framesIn, baseOf, overPasses, endOf, totalFits, modeFits, clockFits, withinOf}
+use Rattle.keyframe.specs.Limits.{framesIn, baseOf, overPasses, endOf, totalFits, modeFits, clockFits, withinOf, Fine}
 use Rattle.keyframe.specs.Pushing.{newTrack, storedOf, laterOf, takesOf, withFrames, withMode, placedOf, pushOf, loopingOf}
 use Rattle.keyframe.specs.Playback.{doneOf}
 use Rattle.keyframe.specs.Stepping.{movedOf, lostOf, finalOf, passedOf, advanceOf, updateOf, resetOf, spanIn, soughtOf, seekToOf}
 use Rattle.keyframe.proofs.Records.{few-frames, frames-fine, elapsed-fine, mode-fine}
-
-abbrev pub Fine : Track → Type 0
-Fine t = withinOf t ≡ true
 
 make : (t : Track) → t .count ≤ 64 → framesOf (framesIn t) ≡ true → Clock (t .elapsed) → modeFits (t .looping) (baseOf t) ≡ true → Fine t
 unfolding withinOf clockFits

@@ -9,12 +9,12 @@ use lib.Dec.{T, leb, ltb, eqb}
 use lib.ListN.{length, take, drop, getD}
 use lib.Seq.{take-at}
 use lib.Ieee.{Float, binary32, fits, lt, le, eq, isNan, ofBits}
-use Rattle.math.specs.Rounded.{zeroF}
+use Rattle.math.specs.Rounded.{_⊕_, zeroF, topF}
 use Rattle.math.specs.Range.{finiteOf, maxZeroOf}
 use Rattle.math.proofs.Choice.{by-test}
 use Rattle.math.proofs.Order.{not-lt-of-le}
 use Rattle.refusal.specs.declared.Refusal.{Refusal}
-use Rattle.refusal.specs.declared.Refusal.the-variants.{EasingNotSupplied, EasingParameter, TrackLimit, TrackFull}
+use Rattle.refusal.specs.declared.Refusal.the-variants.{EasingNotSupplied, EasingParameter, RecordBreaksLimit, StepTooLong, StepLost, ElapsedTooLong, TrackLimit, TrackFull}
 use Rattle.easing.specs.declared.kinds.Easing.{Easing}
 use Rattle.easing.specs.Kinds.{suppliedOf}
 use Rattle.easing.specs.Params as params
@@ -31,10 +31,16 @@ use Rattle.keyframe.specs.declared.types.Track.{Track}
 use Rattle.keyframe.specs.declared.types.Changed.{Changed}
 use Rattle.keyframe.specs.declared.types.Outcome.{Outcome}
 use Rattle.keyframe.specs.declared.types.Outcome.the-variants.{Done, Refused}
-use Rattle.keyframe.specs.Limits.{framesIn, withinOf}
+use Rattle.keyframe.specs.declared.types.Updated.{Updated}
+use Rattle.keyframe.specs.declared.types.Stepped.the-variants as stepped
+use Rattle.keyframe.specs.declared.types.End.{End}
+use Rattle.keyframe.specs.declared.types.End.the-variants.{At, Never}
+use Rattle.keyframe.specs.Limits.{framesIn, baseOf, endOf, withinOf, Fine}
+use Rattle.keyframe.specs.Playback.{doneOf}
+use Rattle.keyframe.specs.Stepping.{movedOf, ran, lostOf, finalOf, passedOf, advanceOf, updateOf}
 use Rattle.keyframe.specs.Pushing.{storedOf, takesOf, placedOf, pushOf}
 use Rattle.keyframe.proofs.Records.{frames-fine}
-use Rattle.keyframe.proofs.Kept.{Fine, push-within}
+use Rattle.keyframe.proofs.Kept.{push-within}
 
 zero-below : lt zeroF zeroF ≡ false
 unfolding lt ofBits
@@ -85,3 +91,67 @@ push-sampled t fine time value e F h = subst (λ (x : Float). eq x value ≡ tru
         (λ _. by-test (Sampled (storedOf time) value) (takesOf t (storedOf time) value) _ _ (λ _. placed-sampled t (record { time = storedOf time; value = value; easing = e }) F) (λ _ h _. never TrackLimit h))
         (λ _ h _. never EasingParameter h))
         (λ _ h _. never EasingNotSupplied h))
+
+module _ (t : Track) (fine : Fine t) where
+  pub ascending : (i j : ℕ) → i < j → j < length (framesIn t) → T (lt (getD (framesIn t) i noFrame .time) (getD (framesIn t) j noFrame .time))
+  ascending = rising beforeAll (framesIn t) (frames-fine t fine)
+
+  module _ (some : 0 < length (framesIn t)) where
+    pub sample-real : (secs : Float) → T (finiteOf (sampleOf (framesIn t) secs))
+    sample-real = sample-finite (framesIn t) (frames-fine t fine) some
+
+    pub at-first : (secs : Float) → T (le secs (firstOf (framesIn t) .time)) → sampleOf (framesIn t) secs ≡ firstOf (framesIn t) .value
+    at-first = sample-first (framesIn t) (frames-fine t fine) some
+
+    pub at-last : (secs : Float) → T (le (lastOf (framesIn t) .time) secs) → sampleOf (framesIn t) secs ≡ lastOf (framesIn t) .value
+    at-last = sample-last (framesIn t) (frames-fine t fine) some
+
+-- what an update tells of running
+abbrev Told : Updated → Type 0
+Told r = (b : Bool) → r .stepped ≡ stepped.Ran b → b ≡ not (doneOf (r .track))
+
+unlike : {A : Type 0} (b : Bool) (r : Refusal) → stepped.Refused r ≡ stepped.Ran b → A
+unlike b r h =
+    let z : _≡_ {A = ℕ} 0 1 = cc in
+    absurd (omega (arith, z))
+
+ran-told : (t : Track) (running : Bool) → running ≡ not (doneOf t) → Told (ran t running)
+ran-told t running e b h =
+    let s : running ≡ b = cc in
+    sym s ∙ e
+
+or-true : (b : Bool) → b || true ≡ true
+or-true true = refl
+or-true false = refl
+
+-- not done: two frames or more
+goes : (t : Track) → doneOf t ≡ false → (e : Float) (c : ℕ) → doneOf (movedOf t e c false) ≡ false
+goes t h e c = go (ltb (t .count) 2) h
+  where
+    go : (b : Bool) → b || t .complete ≡ false → b || false ≡ false
+    go true k = k
+    go false k = refl
+
+advance-told : (t : Track) → doneOf t ≡ false → (end : End) (sum : Float) → Told (advanceOf end t sum)
+unfolding advanceOf
+advance-told t h (At total) sum =
+    by-test Told (le total sum) _ _ (λ _. ran-told (movedOf t total (finalOf (t .looping) (passedOf t sum)) true) false (sym (ap not (or-true (ltb (t .count) 2)))))
+    (λ _. ran-told (movedOf t sum (passedOf t sum) false) true (sym (ap not (goes t h sum (passedOf t sum)))))
+advance-told t h Never sum =
+    by-test Told (lt topF sum) _ _ (λ _ b k. unlike b ElapsedTooLong k)
+    (λ _. ran-told (movedOf t sum (passedOf t sum) false) true (sym (ap not (goes t h sum (passedOf t sum)))))
+
+update-told : (t : Track) (dt : Float) → Told (updateOf t dt)
+unfolding updateOf
+update-told t dt =
+    by-test Told (withinOf t) _ _
+    (λ _.
+    by-test Told (lt topF dt) _ _ (λ _ b k. unlike b StepTooLong k)
+    (λ _.
+    by-test Told (doneOf t) _ _ (λ h. ran-told t false (sym (ap not h)))
+    (λ h. by-test Told (lostOf (t .elapsed) (maxZeroOf dt)) _ _ (λ _ b k. unlike b StepLost k) (λ _. advance-told t h (endOf (t .looping) (baseOf t)) (t .elapsed ⊕ maxZeroOf dt)))))
+    (λ _ b k. unlike b RecordBreaksLimit k)
+
+-- `running` after an update: not complete, and two frames or more
+pub running : (t : Track) (dt : Float) (b : Bool) → updateOf t dt .stepped ≡ stepped.Ran b → b ≡ not (doneOf (updateOf t dt .track))
+running t dt b h = update-told t dt b h

@@ -1,5 +1,6 @@
 -- Document 01, "Records and their limits": the limits of a track.
 use Prim.Native.Nat.{ℕ}
+use mathlib.Core.Path.{_≡_}
 use mathlib.Core.Bool.{Bool, true, _&&_}
 use mathlib.Core.List.{List}
 use lib.Dec.{leb}
@@ -52,3 +53,7 @@ clockFits elapsed m base = betweenOf zeroF topF elapsed && modeFits m base
 
 unfoldable pub withinOf : Track → Bool
 withinOf t = leb (t .count) 64 && framesOf (framesIn t) && clockFits (t .elapsed) (t .looping) (baseOf t)
+
+-- a track within its limits
+abbrev pub Fine : Track → Type 0
+Fine t = withinOf t ≡ true
