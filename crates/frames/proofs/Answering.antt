@@ -5,7 +5,6 @@ use mathlib.Core.Option.{Option, none, some}
 use lib.Ieee.{Float, isNan}
 use Rattle.math.specs.Rounded.{_⊖_, _⊘_, oneF}
 use Rattle.math.specs.Range.{clamp01Of}
-use Rattle.math.proofs.Choice.{and-both}
 use Rattle.math.proofs.Order.{le-numbers}
 use Rattle.easing.specs.declared.kinds.Easing.{Easing}
 use Rattle.easing.specs.declared.answers.Eased.the-variants.{Value}

@@ -1,23 +1,22 @@
 -- A blend by 0 equals its first value, where that is a value of binary32. Assumes nothing.
 use Prim.Native.Nat.{ℕ, zero, suc, _+_, _-_, _*_, _^_, _<_, _≤_}
-use mathlib.Core.Path.{_≡_, refl, sym, ap, _∙_, subst, subst⁻¹}
-use mathlib.Core.Bool.{Bool, true, false, not, _&&_, _||_, Bool·beq, cond, true≢false}
-use native.Mathlib.Nat.{zero-mul, mul-zero, mul-one, mul-pos, mul-assoc, mul-right-comm, mul-lt-mul-of-pos-right, lt-of-mul-lt-mul-right, zero-lt-suc, le-of-eq, lt-of-lt-of-le, lt-of-le-of-lt, lt-irrefl, add-comm}
+use mathlib.Core.Path.{_≡_, refl, sym, ap, _∙_, subst}
+use mathlib.Core.Bool.{Bool, true, false, _||_, Bool·beq, true≢false}
+use native.Mathlib.Nat.{mul-zero, mul-one, mul-pos, mul-assoc, mul-right-comm, mul-lt-mul-of-pos-right, lt-of-mul-lt-mul-right, zero-lt-suc, le-of-eq, lt-of-lt-of-le, lt-of-le-of-lt, lt-irrefl, add-comm}
 use native.Mathlib.Omega.{arith}
 use borrow.Author.Tests.{eq-eqb, eqb-true, le-ltb, lt-ltb, leb-true, leb-false}
 use lib.IntN.{ℤ, pos, negsuc}
 use lib.Pow.{pow-pos, pow-lt, pow-add}
-use lib.Dec.{T, eqb, leb, ltb, eqb·suc-zero}
-use lib.Ieee.{Float, nan, inf, fin, Format, binary32, prec, emax, low, up, down, unlike, fits, round, sum, add, sub, mul, div, neg, lt, le, eq, ofBits}
+use lib.Dec.{T, eqb, leb, eqb·suc-zero}
+use lib.Ieee.{Float, nan, inf, fin, Format, binary32, emax, low, up, down, unlike, fits, round, sum, add, sub, mul, div, neg, lt, eq, ofBits}
 use lib.Ieee.Fits.{down-pos, up-pos}
 use lib.Ieee.Exact.{HasValue, round-exact}
 use lib.Ieee.Scale.{round-same}
 use Rattle.math.specs.Rounded.{_⊕_, _⊖_, _⊗_, _⊘_, zeroF}
 use Rattle.math.specs.Range.{finiteOf}
 use Rattle.math.specs.Blend.{blendOf}
-use Rattle.math.proofs.Choice.{and-both, by-test}
+use Rattle.math.proofs.Choice.{and-both}
 use Rattle.math.proofs.Fitting.{few-digits, in-reach, fine-grained}
-use Rattle.frames.proofs.Rising.{holds}
 
 -- a rounded 0
 zero-form : (s : Bool) → round binary32 s 0 1 ≡ fin s 0 (pos 0)

@@ -1,7 +1,7 @@
 -- A sample at a frame's own time equals, by ==, that frame's value, where that is a value of binary32. Assumes nothing.
-use Prim.Native.Nat.{ℕ, suc, _+_, _-_, _<_, _≤_}
-use mathlib.Core.Path.{_≡_, refl, sym, ap, _∙_, subst}
-use mathlib.Core.Bool.{Bool, true, false, not}
+use Prim.Native.Nat.{ℕ, _+_, _-_, _<_, _≤_}
+use mathlib.Core.Path.{_≡_, ap, _∙_}
+use mathlib.Core.Bool.{true, false, not}
 use mathlib.Core.List.{List}
 use mathlib.Core.Logic.{⊎-elim}
 use native.Mathlib.Nat.{eq-zero-or-pos, eq-or-lt-of-le}
@@ -9,18 +9,18 @@ use native.Mathlib.Omega.{arith}
 use borrow.Author.Tests.{ne-eqb}
 use lib.Dec.{T, lit≤}
 use lib.ListN.{length, getD}
-use lib.Ieee.{Float, binary32, fits, lt, le, eq, isNan, ofBits}
+use lib.Ieee.{Float, binary32, fits, lt, le, eq, isNan}
 use lib.Ieee.Bits.{is-true}
 use Rattle.math.specs.Rounded.{_⊖_, _⊘_, zeroF}
-use Rattle.math.specs.Range.{finiteOf, clamp01Of, maxZeroOf}
+use Rattle.math.specs.Range.{finiteOf, clamp01Of}
 use Rattle.math.proofs.Order.{le-numbers, le-self, lt-le, le-lt-chain, le-turned, eq-self}
 use Rattle.math.proofs.Numbers.{finite-number}
 use Rattle.math.proofs.Sizes.{at-most-finite, sub-at-most}
 use Rattle.frames.specs.declared.frame.Keyframe.{Keyframe}
 use Rattle.frames.specs.Limits.{frameOf, framesOf, beforeAll, noFrame}
-use Rattle.frames.specs.Sampling.{passedOf, firstOf, lastOf, cutOf, spanOf, betweenOf, atOf, sampleOf}
+use Rattle.frames.specs.Sampling.{passedOf, firstOf, lastOf, spanOf, betweenOf, sampleOf}
 use Rattle.frames.proofs.Rising.{each-fine, rising, time-fine, value-fine}
-use Rattle.frames.proofs.Tops.{Clock, clock-finite, time-clock}
+use Rattle.frames.proofs.Tops.{clock-finite, time-clock}
 use Rattle.frames.proofs.Picks.{passed-interval}
 use Rattle.frames.proofs.Samples.{span-finite, span-above, value-most, held-25, sample-first, sample-last}
 use Rattle.frames.proofs.Blends.{sub-self, zero-over, blend-zero}

@@ -1,9 +1,9 @@
 -- What `pick` is given and answers: on ascending times halving finds the interval of the definition, so that the value is the sample. Assumes nothing.
 use Prim.Native.Nat.{ℕ, zero, suc, _+_, _-_, _<_, _≤_}
-use mathlib.Core.Path.{_≡_, refl, sym, ap, _∙_, subst, subst⁻¹}
+use mathlib.Core.Path.{_≡_, refl, sym, ap, _∙_}
 use mathlib.Core.Bool.{Bool, true, false, cond, false≢true}
 use mathlib.Core.List.{List, map}
-use mathlib.Core.Logic.{_⊎_, inl, inr, ⊎-elim}
+use mathlib.Core.Logic.{_⊎_, ⊎-elim}
 use native.Mathlib.Nat.{eq-or-lt-of-le}
 use native.Mathlib.Omega.{arith}
 use lib.Dec.{T, eqb}
@@ -18,9 +18,9 @@ use Rattle.math.proofs.Choice.{by-test}
 use Rattle.math.proofs.Order.{le-numbers, le-self, lt-le, le-chain, lt-of-not-le}
 use Rattle.math.proofs.Upward.{max-zero-up}
 use Rattle.frames.specs.declared.frame.Keyframe.{Keyframe}
-use Rattle.frames.specs.Limits.{frameOf, framesOf, beforeAll, noFrame}
+use Rattle.frames.specs.Limits.{framesOf, beforeAll, noFrame}
 use Rattle.frames.specs.Halving.{halved}
-use Rattle.frames.specs.Sampling.{leading, passedOf, firstOf, lastOf, cutOf, betweenOf, pickOf, atOf, sampleOf}
+use Rattle.frames.specs.Sampling.{passedOf, lastOf, cutOf, betweenOf, pickOf, atOf, sampleOf}
 use Rattle.frames.proofs.Rising.{holds, each-fine, rising, time-fine, time-number}
 use Rattle.frames.proofs.Walks.{lead-is}
 use Rattle.frames.proofs.Halves.{Interval, halved-interval}

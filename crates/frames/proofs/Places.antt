@@ -1,15 +1,14 @@
 -- Where a pushed frame goes: it replaces the first frame that is not earlier, or goes before it. Assumes nothing.
-use Prim.Native.Nat.{ℕ, zero, suc, _+_, _-_, _<_, _≤_}
+use Prim.Native.Nat.{ℕ, suc, _+_, _-_, _<_, _≤_}
 use mathlib.Core.Path.{_≡_, refl, sym, ap, _∙_}
 use mathlib.Core.Bool.{Bool, true, false, cond}
 use mathlib.Core.List.{List, [], _∷_, _++_, append-assoc}
 use native.Mathlib.Omega.{arith}
-use lib.ListN.{length, take, drop, getD, set, length-set, length-append, length-take, length-drop, take-append-drop}
-use lib.Seq.{length-take-le, take-take, take-add, take-at, drop-at, drop-append-le, set-append-left, getD-take}
-use lib.Ieee.{Float, lt, eq}
+use lib.ListN.{length, take, drop, getD, set, length-set, length-append, length-drop, take-append-drop}
+use lib.Seq.{length-take-le, take-take, take-add, drop-at, set-append-left, getD-take}
+use lib.Ieee.{lt, eq}
 use borrow.Author.Tests.{le-leb, lt-leb}
 use Rattle.frames.specs.declared.frame.Keyframe.{Keyframe}
-use Rattle.frames.specs.declared.frame.Put.{Put}
 use Rattle.frames.specs.Limits.{noFrame}
 use Rattle.frames.specs.Sampling.{leading}
 use Rattle.frames.specs.Pushing.{pushedOf, putOf, earlierOf, insertOf}

@@ -1,7 +1,7 @@
 -- A frame pushed among frames within their limits: the frames stay within them, ascending; the last time is the later one; and the frame is there. Assumes nothing.
-use Prim.Native.Nat.{ℕ, zero, suc, _-_, _<_, _≤_}
-use mathlib.Core.Path.{_≡_, refl, sym, ap, _∙_, subst, subst⁻¹}
-use mathlib.Core.Bool.{Bool, true, false, cond, _&&_, _||_, true≢false}
+use Prim.Native.Nat.{ℕ, suc, _-_, _<_}
+use mathlib.Core.Path.{_≡_, refl, sym, ap, _∙_, subst}
+use mathlib.Core.Bool.{Bool, true, false, cond, _||_}
 use mathlib.Core.List.{List, [], _∷_}
 use native.Mathlib.Omega.{arith}
 use borrow.Author.Tests.{ne-eqb}
@@ -12,7 +12,7 @@ use lib.Ieee.Bits.{is-true}
 use Rattle.math.specs.Rounded.{zeroF}
 use Rattle.math.proofs.Choice.{by-test}
 use Rattle.math.proofs.Upward.{Up}
-use Rattle.math.proofs.Order.{lt-le, le-of-not-lt, not-lt-of-le, le-lt-chain, lt-le-chain, lt-not-eq}
+use Rattle.math.proofs.Order.{lt-le, le-of-not-lt, not-lt-of-le, le-lt-chain}
 use Rattle.frames.specs.declared.frame.Keyframe.{Keyframe}
 use Rattle.frames.specs.Limits.{frameOf, framesAfter, framesOf, beforeAll, noFrame}
 use Rattle.frames.specs.Sampling.{lastOf, durationOf}

@@ -1,23 +1,22 @@
 -- Samples: before and after all frames, and that every sample is finite. Assumes nothing.
 use Prim.Native.Nat.{ℕ, zero, suc, _-_, _<_, _≤_}
-use mathlib.Core.Path.{_≡_, refl, sym, ap, _∙_, subst, subst⁻¹}
-use mathlib.Core.Bool.{Bool, true, false, not, cond}
-use mathlib.Core.List.{List, [], _∷_}
+use mathlib.Core.Path.{_≡_, refl, ap, _∙_}
+use mathlib.Core.Bool.{true, false, not}
+use mathlib.Core.List.{List}
 use native.Mathlib.Omega.{arith}
 use borrow.Author.Tests.{eqb-true, eqb-false}
 use lib.Dec.{T, eqb, lit≤}
 use lib.IntN.{pos}
 use lib.ListN.{length, getD}
-use lib.Ieee.{Float, binary32, lt, le, eq, isNan, ofInt, round, ofBits}
+use lib.Ieee.{Float, binary32, lt, le, isNan, ofInt, ofBits}
 use lib.Ieee.Bits.{is-true}
 use Rattle.math.specs.Whole.{Is}
 use Rattle.math.specs.Rounded.{_⊖_, _⊘_, _⊗_, zeroF, topF}
 use Rattle.math.specs.Range.{finiteOf, valueOf, clamp01Of, maxZeroOf, Within, AtMost}
-use Rattle.math.specs.Blend.{blendOf}
 use Rattle.math.proofs.Choice.{by-test}
 use Rattle.math.proofs.Order.{le-numbers, le-self, le-chain, lt-le, lt-le-chain, not-lt-of-le, le-of-not-lt, le-turned, lt-of-not-le, lt-not-eq}
 use Rattle.math.proofs.Numbers.{div-number}
-use Rattle.math.proofs.Upward.{Up, max-zero-up}
+use Rattle.math.proofs.Upward.{max-zero-up}
 use Rattle.math.proofs.Sizes.{at-most-finite, at-most-more, size-at-most, sub-near, sub-at-most, mul-at-most, add-at-most}
 use Rattle.math.proofs.Bounded.{zero-most}
 use Rattle.math.proofs.Ranges.{clamped}
@@ -29,9 +28,9 @@ use Rattle.easing.specs.Apply.{applyOf}
 use Rattle.easing.proofs.Finite.{apply-bounded}
 use Rattle.frames.specs.declared.frame.Keyframe.{Keyframe}
 use Rattle.frames.specs.Limits.{frameOf, framesOf, beforeAll, noFrame}
-use Rattle.frames.specs.Sampling.{leading, passedOf, firstOf, lastOf, cutOf, epsilon, spanOf, valueIn, easedOf, betweenOf, pickOf, atOf, sampleOf}
-use Rattle.frames.proofs.Rising.{holds, each-fine, rising, time-fine, value-fine, time-number}
-use Rattle.frames.proofs.Tops.{Clock, top-is, clock-most, clock-finite, time-clock}
+use Rattle.frames.specs.Sampling.{passedOf, firstOf, lastOf, cutOf, epsilon, spanOf, valueIn, easedOf, betweenOf, atOf, sampleOf}
+use Rattle.frames.proofs.Rising.{holds, each-fine, rising, time-fine, value-fine}
+use Rattle.frames.proofs.Tops.{Clock, top-is, clock-most, time-clock}
 use Rattle.frames.proofs.Walks.{lead-some, lead-below}
 
 epsilon-finite : T (finiteOf epsilon)

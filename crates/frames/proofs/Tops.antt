@@ -1,21 +1,21 @@
 -- Floats from 0 to 16,777,216: the times of frames, and what stays among them. Assumes nothing.
-use mathlib.Core.Path.{_≡_, refl, subst, subst⁻¹}
-use mathlib.Core.Bool.{Bool, true, false, _&&_}
+use mathlib.Core.Path.{_≡_, refl, subst⁻¹}
+use mathlib.Core.Bool.{true, false}
 use Prim.Native.Nat.{ℕ, _*_, _≤_}
 use native.Mathlib.Omega.{arith}
 use lib.Dec.{T, lit≤, le→leb}
 use lib.Ieee.{Float, nan, inf, fin, binary32, up, down, lt, le, eq, ofBits}
 use lib.Ieee.Bits.{is-true}
 use Rattle.math.specs.Whole.{Is}
-use Rattle.math.specs.Rounded.{_⊕_, _⊖_, _⊗_, zeroF, oneF, topF}
+use Rattle.math.specs.Rounded.{_⊗_, zeroF, topF}
 use Rattle.math.specs.Range.{finiteOf, betweenOf, Within, AtMost}
 use Rattle.math.proofs.Choice.{and-both}
 use Rattle.math.proofs.Order.{le-sizes}
-use Rattle.math.proofs.Upward.{Up, add-up, mul-up}
-use Rattle.math.proofs.Sizes.{up-to, at-most-finite, sub-near}
+use Rattle.math.proofs.Upward.{Up, mul-up}
+use Rattle.math.proofs.Sizes.{up-to, at-most-finite}
 use Rattle.math.proofs.Bounded.{shrunk}
 use Rattle.math.proofs.Ranges.{within-at-most}
-use Rattle.math.proofs.Wholes.{fraction-le, whole-is}
+use Rattle.math.proofs.Wholes.{fraction-le}
 use Rattle.frames.specs.Limits.{plusOf, timeOf}
 use Rattle.frames.proofs.Rising.{holds, time-top}
 

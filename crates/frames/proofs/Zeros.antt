@@ -1,13 +1,13 @@
 -- The times of frames: which zero is one, and which other floats are. Assumes nothing.
-use mathlib.Core.Path.{_≡_, refl, sym, ap, _∙_, subst}
+use mathlib.Core.Path.{_≡_, refl, sym, ap, _∙_}
 use mathlib.Core.Bool.{Bool, true, false, not, _&&_, _||_, Bool·beq, true≢false}
-use Prim.Native.Nat.{ℕ, zero, suc, _*_, _<_}
+use Prim.Native.Nat.{_*_, _<_}
 use native.Mathlib.Nat.{eq-zero-or-pos}
 use native.Mathlib.Omega.{arith}
 use mathlib.Core.Logic.{⊎-elim}
 use borrow.Author.Tests.{eqb-true, eq-eqb, lt-ltb}
-use lib.IntN.{ℤ, pos}
-use lib.Dec.{T, eqb, ltb}
+use lib.IntN.{pos}
+use lib.Dec.{T, eqb}
 use lib.Ieee.{Float, nan, inf, fin, binary32, fits, up, down, lt, le, eq, isNan, ofBits, toBits, size}
 use Rattle.math.specs.Rounded.{zeroF, topF}
 use Rattle.math.proofs.Choice.{and-both}

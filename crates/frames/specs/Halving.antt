@@ -1,6 +1,6 @@
 -- The interval of a time by halving, as the code finds it; on ascending times it is the interval of document 01, "The track".
 use Prim.Native.Nat.{ℕ, zero, suc, _+_, _/_}
-use mathlib.Core.Bool.{Bool, cond}
+use mathlib.Core.Bool.{cond}
 use mathlib.Core.List.{List}
 use lib.Dec.{ltb}
 use lib.ListN.{getD}

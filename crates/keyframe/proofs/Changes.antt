@@ -1,5 +1,5 @@
 -- The cases of a push and of a change of mode. Assumes nothing.
-use mathlib.Core.Path.{_≡_, refl, sym, _∙_}
+use mathlib.Core.Path.{_≡_, sym, _∙_}
 use mathlib.Core.Bool.{Bool, true, false, not}
 use borrow.Author.Tests.{not-true, not-false}
 use lib.Ieee.{Float}
@@ -11,7 +11,6 @@ use Rattle.easing.specs.Apply.{fitsRecordOf}
 use Rattle.loop_mode.specs.declared.Loop.{Loop}
 use Rattle.frames.specs.Pushing.{putOf}
 use Rattle.keyframe.specs.declared.types.Track.{Track}
-use Rattle.keyframe.specs.declared.types.Changed.{Changed}
 use Rattle.keyframe.specs.Limits.{baseOf, modeFits, withinOf}
 use Rattle.keyframe.specs.Pushing.{refused, changed, storedOf, takesOf, withMode, placedOf, pushOf, loopingOf}
 

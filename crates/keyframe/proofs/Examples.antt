@@ -1,10 +1,9 @@
 -- Document 01, "Checked by hand", K1 to K3, of the definitions. Assumes nothing.
 use mathlib.Core.Path.{_≡_, refl}
-use mathlib.Core.Bool.{Bool, true, false}
-use lib.Ieee.{Float, nan, inf, add, sub, mul, div, lt, le, eq, isNan, ofBits, ofInt, rem, round, toUnsigned}
+use mathlib.Core.Bool.{true, false}
+use lib.Ieee.{nan, inf, add, sub, mul, div, lt, le, eq, isNan, ofBits, ofInt, toUnsigned}
 use Rattle.math.specs.Rounded.{f32, zeroF, oneF, twoF}
 use Rattle.easing.specs.declared.kinds.Easing.the-variants.{Linear}
-use Rattle.easing.specs.declared.answers.Eased.{Eased}
 use Rattle.easing.specs.declared.answers.Eased.the-variants.{Value}
 use Rattle.easing.specs.Kinds.{curveOf, suppliedOf}
 use Rattle.easing.specs.Params as params

@@ -1,10 +1,10 @@
 -- A list whose front is filled, place by place, from another list. Assumes nothing.
 use Prim.Native.Nat.{ℕ, suc, _+_, _-_, _<_, _≤_}
-use mathlib.Core.Path.{_≡_, refl, sym, ap, _∙_}
+use mathlib.Core.Path.{_≡_, refl, ap, _∙_}
 use mathlib.Core.List.{List, [], _∷_, _++_, map, append-assoc, append-nil}
 use native.Mathlib.Numerals.{add-one}
 use native.Mathlib.Omega.{arith}
-use lib.ListN.{length, take, drop, getD, set, length-append, length-map, length-drop}
+use lib.ListN.{length, take, drop, getD, set, length-map}
 use lib.Seq.{drop-cons, length-take-le, take-suc, take-length, drop-length, set-at}
 use lib.Ieee.{Float, nan}
 

@@ -1,19 +1,19 @@
 -- Every call that is handed a track within its limits hands back one within them. Assumes nothing.
-use Prim.Native.Nat.{ℕ, _-_, _*_, _^_, _<_, _≤_}
-use mathlib.Core.Path.{_≡_, refl, sym, ap, _∙_, subst, subst⁻¹}
-use mathlib.Core.Bool.{Bool, true, false, cond, _&&_, true≢false}
+use Prim.Native.Nat.{ℕ, _-_, _<_, _≤_}
+use mathlib.Core.Path.{_≡_, refl, subst⁻¹}
+use mathlib.Core.Bool.{Bool, true, false, _&&_}
 use mathlib.Core.List.{List, _++_}
 use native.Mathlib.Nat.{le-refl}
 use native.Mathlib.Omega.{arith}
 use borrow.Author.Tests.{eqb-false, leb-true, le-leb}
 use lib.Dec.{T, leb, eqb, lit≤, le→leb}
 use lib.IntN.{pos}
-use lib.ListN.{length, take, drop, getD}
+use lib.ListN.{length, take, drop}
 use lib.Seq.{take-at}
 use lib.Ieee.{Float, binary32, lt, le, eq, isNan, ofInt, ofBits}
 use Rattle.math.specs.Whole.{Is}
 use Rattle.math.specs.Rounded.{_⊕_, _⊗_, zeroF, topF}
-use Rattle.math.specs.Range.{finiteOf, valueOf, betweenOf, clamp01Of, maxZeroOf}
+use Rattle.math.specs.Range.{valueOf, clamp01Of, maxZeroOf}
 use Rattle.math.proofs.Choice.{by-test, and-both}
 use Rattle.math.proofs.Order.{le-numbers, le-chain, lt-le, lt-le-chain, lt-of-not-le, le-of-not-lt}
 use Rattle.math.proofs.Upward.{Up, add-up, mul-up, max-zero-up}
@@ -28,7 +28,7 @@ use Rattle.loop_mode.specs.declared.Loop.{Loop}
 use Rattle.loop_mode.specs.declared.Loop.the-variants.{Once, Times, Forever, PingPong, PingPongTimes}
 use Rattle.loop_mode.specs.Passes as passes
 use Rattle.frames.specs.declared.frame.Keyframe.{Keyframe}
-use Rattle.frames.specs.Limits.{timeOf, frameOf, framesAfter, framesOf, beforeAll, noFrame}
+use Rattle.frames.specs.Limits.{timeOf, frameOf, framesAfter, framesOf, beforeAll}
 use Rattle.frames.specs.declared.frame.Put.{Put}
 use Rattle.frames.specs.Sampling.{durationOf, lastOf}
 use Rattle.frames.specs.Pushing.{pushedOf, putOf}
@@ -40,10 +40,10 @@ use Rattle.keyframe.specs.declared.types.Changed.{Changed}
 use Rattle.keyframe.specs.declared.types.Updated.{Updated}
 use Rattle.keyframe.specs.declared.types.End.{End}
 use Rattle.keyframe.specs.declared.types.End.the-variants.{At, Never}
-use Rattle.keyframe.specs.Limits.{framesIn, baseOf, overPasses, endOf, totalFits, modeFits, clockFits, withinOf, Fine}
+use Rattle.keyframe.specs.Limits.{framesIn, baseOf, overPasses, endOf, modeFits, clockFits, withinOf, Fine}
 use Rattle.keyframe.specs.Pushing.{newTrack, storedOf, laterOf, takesOf, withFrames, withMode, placedOf, pushOf, loopingOf}
 use Rattle.keyframe.specs.Playback.{doneOf}
-use Rattle.keyframe.specs.Stepping.{movedOf, lostOf, finalOf, passedOf, advanceOf, updateOf, resetOf, spanIn, soughtOf, seekToOf}
+use Rattle.keyframe.specs.Stepping.{movedOf, lostOf, advanceOf, updateOf, resetOf, spanIn, soughtOf, seekToOf}
 use Rattle.keyframe.proofs.Records.{few-frames, frames-fine, elapsed-fine, mode-fine}
 
 make : (t : Track) → t .count ≤ 64 → framesOf (framesIn t) ≡ true → Clock (t .elapsed) → modeFits (t .looping) (baseOf t) ≡ true → Fine t

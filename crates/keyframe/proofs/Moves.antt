@@ -1,8 +1,8 @@
 -- The cases of an update, of a reset and of a seek. Assumes nothing.
-use mathlib.Core.Path.{_≡_, refl, sym, _∙_}
-use mathlib.Core.Bool.{Bool, true, false}
+use mathlib.Core.Path.{_≡_}
+use mathlib.Core.Bool.{true, false}
 use lib.Ieee.{Float, lt, le, isNan}
-use Rattle.math.specs.Rounded.{_⊕_, zeroF, topF}
+use Rattle.math.specs.Rounded.{_⊕_, topF}
 use Rattle.math.specs.Range.{clamp01Of, maxZeroOf}
 use Rattle.refusal.specs.declared.Refusal.the-variants.{ProgressIsNan, RecordBreaksLimit, StepTooLong, StepLost, ElapsedTooLong}
 use Rattle.keyframe.specs.declared.types.Track.{Track}

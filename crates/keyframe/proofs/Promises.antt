@@ -1,14 +1,13 @@
 -- What a track promises: ascending times, finite values, the value that was pushed, the ends, and what `running` says. Assumes nothing.
-use Prim.Native.Nat.{ℕ, _-_, _<_, _≤_}
+use Prim.Native.Nat.{ℕ, _-_, _<_}
 use mathlib.Core.Path.{_≡_, refl, sym, ap, _∙_, subst, subst⁻¹}
-use mathlib.Core.Bool.{Bool, true, false, not, cond, _||_, true≢false}
+use mathlib.Core.Bool.{Bool, true, false, not, cond, _||_}
 use mathlib.Core.List.{List, _++_}
 use native.Mathlib.Omega.{arith}
-use borrow.Author.Tests.{ltb-true, ltb-false}
 use lib.Dec.{T, leb, ltb, eqb}
 use lib.ListN.{length, take, drop, getD}
 use lib.Seq.{take-at}
-use lib.Ieee.{Float, binary32, fits, lt, le, eq, isNan, ofBits}
+use lib.Ieee.{Float, binary32, fits, lt, le, eq, ofBits}
 use Rattle.math.specs.Rounded.{_⊕_, zeroF, topF}
 use Rattle.math.specs.Range.{finiteOf, maxZeroOf}
 use Rattle.math.proofs.Choice.{by-test}
@@ -23,13 +22,12 @@ use Rattle.frames.specs.declared.frame.Put.{Put}
 use Rattle.frames.specs.Limits.{framesOf, beforeAll, noFrame}
 use Rattle.frames.specs.Sampling.{cutOf, lastOf, atOf, firstOf, sampleOf}
 use Rattle.frames.specs.Pushing.{pushedOf, putOf}
-use Rattle.frames.proofs.Rising.{holds, rising}
+use Rattle.frames.proofs.Rising.{rising}
 use Rattle.frames.proofs.Pushed.{eq-le, pushed-in}
 use Rattle.frames.proofs.Samples.{sample-finite, sample-first, sample-last}
 use Rattle.frames.proofs.Owned.{sample-own}
 use Rattle.keyframe.specs.declared.types.Track.{Track}
 use Rattle.keyframe.specs.declared.types.Changed.{Changed}
-use Rattle.keyframe.specs.declared.types.Outcome.{Outcome}
 use Rattle.keyframe.specs.declared.types.Outcome.the-variants.{Done, Refused}
 use Rattle.keyframe.specs.declared.types.Updated.{Updated}
 use Rattle.keyframe.specs.declared.types.Stepped.the-variants as stepped

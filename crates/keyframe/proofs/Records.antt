@@ -1,14 +1,14 @@
 -- The limits of a track, test by test. Assumes nothing.
-use Prim.Native.Nat.{ℕ, suc, _+_, _-_, _<_, _≤_}
-use mathlib.Core.Path.{_≡_, refl, sym, ap, _∙_}
+use Prim.Native.Nat.{ℕ, _+_, _-_, _<_, _≤_}
+use mathlib.Core.Path.{_≡_, refl, sym, _∙_}
 use mathlib.Core.Bool.{Bool, true, false, _&&_}
-use mathlib.Core.List.{List, [], _∷_}
+use mathlib.Core.List.{List}
 use native.Mathlib.Omega.{arith}
 use lib.Dec.{leb}
 use lib.ListN.{length, take, drop, getD, length-map}
 use lib.Seq.{length-take-le, getD-take}
 use lib.Ieee.{Float, lt, le}
-use borrow.Author.Tests.{leb-true, le-leb, lt-leb, eq-eqb, ne-eqb}
+use borrow.Author.Tests.{leb-true, le-leb, lt-leb, ne-eqb}
 use mir.Val.{Val}
 use denote.Laws.{Is}
 use denote.Struct.Declared.{row}
@@ -23,11 +23,10 @@ use Rattle.frames.specs.Limits.{frameOf, framesAfter, framesOf, noFrame}
 use Rattle.frames.specs.Sampling.{durationOf}
 use Rattle.frames.proofs.Walks.{front, back}
 use Rattle.keyframe.specs.declared.types.Track.{Track}
-use Rattle.keyframe.specs.declared.types.End.{End}
 use Rattle.keyframe.specs.declared.types.End.the-variants.{At, Never}
 use Rattle.keyframe.proofs.types.Track.{the-type}
 use Rattle.keyframe.proofs.types.Track.Laws.{the-laws}
-use Rattle.keyframe.specs.Limits.{framesIn, baseOf, endOf, totalFits, modeFits, clockFits, withinOf}
+use Rattle.keyframe.specs.Limits.{framesIn, baseOf, endOf, modeFits, clockFits, withinOf}
 
 -- a track's array has 64 places
 pub frames-long : (t : Track) (vs : List Val) → Is (row the-type) t vs → length (t .frames) ≡ 64

@@ -1,6 +1,6 @@
 -- Document 01, "The track": "Many times at once".
 use Prim.Native.Nat.{ℕ}
-use mathlib.Core.Bool.{Bool, cond}
+use mathlib.Core.Bool.{cond}
 use mathlib.Core.List.{List, _++_, map}
 use lib.Dec.{leb, ltb, eqb}
 use lib.ListN.{length, drop}

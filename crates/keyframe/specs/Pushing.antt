@@ -1,6 +1,6 @@
 -- Document 01, "The track" and "Refusal numbers": a frame pushed into a track, and a change of its mode.
 use Prim.Native.Nat.{ℕ}
-use mathlib.Core.Bool.{Bool, true, false, cond, _&&_}
+use mathlib.Core.Bool.{Bool, false, cond, _&&_}
 use mathlib.Core.List.{List}
 use lib.ListN.{replicate}
 use lib.Ieee.{Float, lt, eq}

@@ -1,8 +1,6 @@
 -- `active` meets its contract. Assumes nothing.
 use borrow.Author.Needs.{needs}
-use mathlib.Core.Path.{_≡_, sym, ap, _∙_}
-use lib.Ieee.{Float, ofBits, eq}
-use Rattle.math.specs.Rounded.{zeroF}
+use lib.Ieee.{ofBits}
 use Rattle.keyframe.specs.Playback.{activeOf}
 use Rattle.keyframe.proofs.playback.active.Statement.{statement}
 use Rattle.keyframe.proofs.playback.active.Tie as tie

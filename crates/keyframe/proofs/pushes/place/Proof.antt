@@ -1,8 +1,5 @@
 -- `place` meets its contract. Assumes nothing.
-use mathlib.Core.Path.{_≡_, sym, ap, _∙_}
-use mathlib.Core.Bool.{Bool, true, false}
 use borrow.Author.Needs.{needs}
-use Rattle.frames.specs.declared.frame.Put.{Put}
 use Rattle.keyframe.specs.Pushing.{placedOf}
 use Rattle.keyframe.proofs.pushes.place.Statement.{statement}
 use Rattle.keyframe.proofs.pushes.place.Tie as tie

@@ -1,9 +1,8 @@
 -- `sought` meets its contract, by what its callees ensure. Assumes nothing.
 use borrow.Author.Needs.{needs}
-use mathlib.Core.Path.{_≡_, sym, _∙_}
+use mathlib.Core.Path.{_∙_}
 use lib.Ieee.{ofBits}
-use Rattle.keyframe.specs.Limits.{baseOf, endOf}
-use Rattle.keyframe.specs.Stepping.{spanIn, soughtOf}
+use Rattle.keyframe.specs.Stepping.{soughtOf}
 use Rattle.keyframe.proofs.steps.sought.Statement.{statement}
 use Rattle.keyframe.proofs.steps.sought.Tie as tie
 

@@ -1,7 +1,7 @@
 -- `duration` meets its contract. Assumes nothing.
 use borrow.Author.Needs.{needs}
 use mathlib.Core.Path.{_≡_, sym, _∙_}
-use mathlib.Core.Bool.{true, false}
+use mathlib.Core.Bool.{true}
 use Rattle.keyframe.specs.Limits.{withinOf}
 use Rattle.keyframe.specs.Playback.{durationIn}
 use Rattle.keyframe.proofs.Records.{few-frames}

@@ -1,10 +1,9 @@
 -- `fill_values` meets its contract, refusal by refusal. Assumes nothing.
 use borrow.Author.Needs.{needs}
-use mathlib.Core.Path.{_≡_, refl, sym, ap, _∙_}
+use mathlib.Core.Path.{_≡_, refl, _∙_}
 use mathlib.Core.Bool.{true}
 use native.Mathlib.Omega.{arith}
 use denote.Ref.{now}
-use Rattle.refusal.specs.Number.{numberOf}
 use Rattle.keyframe.specs.Limits.{withinOf}
 use Rattle.keyframe.proofs.Changes.{failed, passed}
 use Rattle.keyframe.proofs.Batches.{number-broken, number-none, number-short, number-taken, refused, accepted}

@@ -1,5 +1,5 @@
 -- `looping` meets its contract, refusal by refusal. Assumes nothing.
-use mathlib.Core.Path.{_≡_, sym, ap, _∙_}
+use mathlib.Core.Path.{_≡_, _∙_}
 use mathlib.Core.Bool.{true, false}
 use borrow.Author.Needs.{needs}
 use Rattle.keyframe.specs.Limits.{baseOf, modeFits, withinOf}

@@ -1,5 +1,5 @@
 -- `push_eased` meets its contract, refusal by refusal. Assumes nothing.
-use mathlib.Core.Path.{_≡_, sym, ap, _∙_}
+use mathlib.Core.Path.{_≡_, _∙_}
 use mathlib.Core.Bool.{true}
 use borrow.Author.Needs.{needs}
 use Rattle.easing.specs.Kinds.{suppliedOf}

@@ -1,6 +1,5 @@
 -- `reset` meets its contract. Assumes nothing.
 use borrow.Author.Needs.{needs}
-use mathlib.Core.Path.{_≡_, sym, _∙_}
 use lib.Ieee.{ofBits}
 use Rattle.keyframe.specs.Stepping.{resetOf}
 use Rattle.keyframe.proofs.Changes.{failed, passed}

@@ -1,6 +1,6 @@
 -- `seek_to` meets its contract, refusal by refusal. Assumes nothing.
 use borrow.Author.Needs.{needs}
-use mathlib.Core.Path.{_≡_, sym, ap, _∙_}
+use mathlib.Core.Path.{_≡_, sym, _∙_}
 use mathlib.Core.Bool.{true}
 use Rattle.keyframe.specs.Limits.{withinOf}
 use Rattle.keyframe.proofs.Records.{few-frames}

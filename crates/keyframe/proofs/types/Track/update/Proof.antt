@@ -1,9 +1,8 @@
 -- `update` meets its contract, refusal by refusal. Assumes nothing.
 use borrow.Author.Needs.{needs}
-use mathlib.Core.Path.{_≡_, sym, ap, _∙_}
+use mathlib.Core.Path.{_≡_, sym, _∙_}
 use mathlib.Core.Bool.{true, false}
-use lib.Ieee.{ofBits, lt}
-use Rattle.math.specs.Rounded.{topF}
+use lib.Ieee.{ofBits}
 use Rattle.math.specs.Range.{maxZeroOf}
 use Rattle.keyframe.specs.Limits.{withinOf}
 use Rattle.keyframe.specs.Playback.{doneOf}
