@@ -1,5 +1,6 @@
 pub mod Answering
 mod Blends
+mod Fills
 pub mod Halves
 pub mod Pushed
 pub mod Rising

@@ -2,7 +2,7 @@
 use Prim.Native.Nat.{ℕ, zero, suc, _+_, _-_, _<_, _≤_}
 use mathlib.Core.Path.{_≡_, refl, sym, ap, _∙_}
 use mathlib.Core.Bool.{Bool, true, false, cond, false≢true}
-use mathlib.Core.List.{List, map}
+use mathlib.Core.List.{List}
 use mathlib.Core.Logic.{_⊎_, ⊎-elim}
 use native.Mathlib.Nat.{eq-or-lt-of-le}
 use native.Mathlib.Omega.{arith}
@@ -20,13 +20,10 @@ use Rattle.math.proofs.Upward.{max-zero-up}
 use Rattle.frames.specs.declared.frame.Keyframe.{Keyframe}
 use Rattle.frames.specs.Limits.{framesOf, beforeAll, noFrame}
 use Rattle.frames.specs.Halving.{halved}
-use Rattle.frames.specs.Sampling.{passedOf, lastOf, cutOf, betweenOf, pickOf, atOf, sampleOf}
+use Rattle.frames.specs.Sampling.{timesOf, passedOf, lastOf, cutOf, betweenOf, pickOf, atOf, sampleOf}
 use Rattle.frames.proofs.Rising.{holds, each-fine, rising, time-fine, time-number}
 use Rattle.frames.proofs.Walks.{lead-is}
 use Rattle.frames.proofs.Halves.{Interval, halved-interval}
-
-abbrev pub timesOf : List Keyframe → List Float
-timesOf fs = map (λ (k : Keyframe). k .time) fs
 
 pub times-at : (fs : List Keyframe) (i : ℕ) → getD (timesOf fs) i nan ≡ getD fs i noFrame .time
 times-at fs i = List·getD-map (λ (k : Keyframe). k .time) fs i noFrame

@@ -1,9 +1,9 @@
 -- Document 01, "The track": the value of frames at a time in seconds.
 use Prim.Native.Nat.{ℕ, suc, _-_}
 use mathlib.Core.Bool.{Bool, cond}
-use mathlib.Core.List.{List, [], _∷_}
+use mathlib.Core.List.{List, [], _∷_, _++_, map}
 use lib.Dec.{eqb}
-use lib.ListN.{length, getD}
+use lib.ListN.{length, drop, getD}
 use lib.Ieee.{Float, lt, le}
 use Rattle.math.specs.Rounded.{_⊖_, _⊘_, f32, zeroF}
 use Rattle.math.specs.Range.{clamp01Of, maxZeroOf}
@@ -69,3 +69,11 @@ atOf l t = pickOf (firstOf l) (lastOf l) (getD l (passedOf t l - 1) noFrame) (ge
 -- "one frame gives its value; secs is max with 0, then cut at the last time"
 unfoldable pub sampleOf : List Keyframe → Float → Float
 sampleOf l secs = cond (eqb (length l) 1) (firstOf l .value) (atOf l (cutOf (maxZeroOf secs) (lastOf l .time)))
+
+-- the times of all places
+abbrev pub timesOf : List Keyframe → List Float
+timesOf fs = map (λ (k : Keyframe). k .time) fs
+
+-- "a lent list of times is sampled into a lent output": the sample at each time, and behind them what was there
+unfoldable pub filledOf : List Keyframe → List Float → List Float → List Float
+filledOf l times out = map (λ (secs : Float). sampleOf l secs) times ++ drop (length times) out

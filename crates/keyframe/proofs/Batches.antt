@@ -11,10 +11,10 @@ use lib.Ieee.{Float, nan}
 use borrow.Author.Tests.{lt-ltb, le-ltb, le-leb, lt-leb, leb-true}
 use Rattle.refusal.specs.declared.Refusal.the-variants.{RecordBreaksLimit, NoFrames, OutputTooShort}
 use Rattle.refusal.specs.Number.{numberOf}
-use Rattle.frames.specs.Sampling.{sampleOf}
+use Rattle.frames.specs.Sampling.{sampleOf, filledOf}
 use Rattle.keyframe.specs.declared.types.Track.{Track}
 use Rattle.keyframe.specs.Limits.{framesIn, withinOf}
-use Rattle.keyframe.specs.Batch.{filledOf, batchNumber, batchOut, batchCount}
+use Rattle.keyframe.specs.Batch.{batchNumber, batchOut, batchCount}
 
 module _ (t : Track) (times out : List Float) where
   pub number-broken : withinOf t ≡ false → numberOf RecordBreaksLimit ≡ batchNumber t times out

@@ -1,21 +1,16 @@
 -- Document 01, "The track": "Many times at once".
 use Prim.Native.Nat.{ℕ}
 use mathlib.Core.Bool.{cond}
-use mathlib.Core.List.{List, _++_, map}
+use mathlib.Core.List.{List}
 use lib.Dec.{leb, ltb, eqb}
-use lib.ListN.{length, drop}
+use lib.ListN.{length}
 use lib.Ieee.{Float}
 use Rattle.refusal.specs.declared.Refusal.the-variants.{RecordBreaksLimit, NoFrames, OutputTooShort}
 use Rattle.refusal.specs.Number.{numberOf}
-use Rattle.frames.specs.declared.frame.Keyframe.{Keyframe}
-use Rattle.frames.specs.Sampling.{sampleOf}
+use Rattle.frames.specs.Sampling.{filledOf}
 use Rattle.keyframe.specs.declared.types.Track.{Track}
 use Rattle.keyframe.specs.Limits.{framesIn, withinOf}
 use Rattle.keyframe.specs.Refusing.{unless}
-
--- the sample at each time, and behind them what was there
-unfoldable pub filledOf : List Keyframe → List Float → List Float → List Float
-filledOf l times out = map (λ (secs : Float). sampleOf l secs) times ++ drop (length times) out
 
 -- "The refusal number, 0 for none": 4, 10, 12
 unfoldable pub batchNumber : Track → List Float → List Float → ℕ

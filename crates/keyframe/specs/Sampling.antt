@@ -1,20 +1,14 @@
 -- Document 01, "The track" and "Refusal numbers": the value of a track at a time.
-use mathlib.Core.List.{List, map}
 use lib.Dec.{ltb}
 use lib.Ieee.{Float}
 use Rattle.refusal.specs.declared.Refusal.the-variants.{RecordBreaksLimit, NoFrames}
 use Rattle.easing.specs.declared.answers.Eased.{Eased}
 use Rattle.easing.specs.declared.answers.Eased.the-variants.{Value, Refused}
-use Rattle.frames.specs.declared.frame.Keyframe.{Keyframe}
 use Rattle.frames.specs.Sampling.{sampleOf}
 use Rattle.keyframe.specs.declared.types.Track.{Track}
 use Rattle.keyframe.specs.Limits.{framesIn, withinOf}
 use Rattle.keyframe.specs.Refusing.{unless}
 use Rattle.keyframe.specs.Playback.{activeOf}
-
--- the times of all 64 places
-abbrev pub timesOf : Track → List Float
-timesOf t = map (λ (k : Keyframe). k .time) (t .frames)
 
 -- 4, then 10: "sampling a track with no frames"
 unfoldable pub valueAtOf : Track → Float → Eased

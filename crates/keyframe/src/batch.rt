@@ -3,7 +3,6 @@ ghost use mathlib.Core.Path.{_≡_};
 ghost use lib.ListN.{take};
 ghost use denote.Ref.{ptr};
 ghost use Rattle.keyframe.specs.Batch.{batchNumber, batchOut, batchCount};
-use crate::sampling::fill;
 use crate::types::Track;
 use refusal::Refusal;
 
@@ -27,7 +26,8 @@ impl Track {
             *refusal = Refusal::OutputTooShort.number();
             return 0;
         }
-        fill(self, times, out);
+        let list = self.frames;
+        frames::fill(list, self.count, times, out);
         *refusal = 0;
         times.len()
     }

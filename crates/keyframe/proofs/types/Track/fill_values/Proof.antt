@@ -5,6 +5,7 @@ use mathlib.Core.Bool.{true}
 use native.Mathlib.Omega.{arith}
 use denote.Ref.{now}
 use Rattle.keyframe.specs.Limits.{withinOf}
+use Rattle.keyframe.proofs.Records.{few-frames, frames-fine}
 use Rattle.keyframe.proofs.Changes.{failed, passed}
 use Rattle.keyframe.proofs.Batches.{number-broken, number-none, number-short, number-taken, refused, accepted}
 use Rattle.keyframe.proofs.types.Track.fill_values.Statement.{statement}
@@ -36,11 +37,11 @@ fill-values-spec =
     let e = number-short (a .self) (now (a .times)) (now (a .out)) (within b) (c .before .before .if2 .left) (c .before .if3 .taken) in
     rw (c .number3 .ensures) (refused _ _ _ _ e refl))
     (λ c κs.
-    let b = c .before .before .before .before in
-    (within b, omega (arith, c .before .before .if2 .left), c .before .if3 .left))
+    let w = within (c .before .before .before .before .before) in
+    (frames-fine _ w, omega (arith, c .before .before .before .if2 .left), few-frames _ w, c .before .before .if3 .left))
     (λ c. search needs)
     (λ c.
-    let b = c .before .before .before .before .before .before .before in
+    let b = c .before .before .before .before .before .before .before .before in
     let a = b .before .before .before .before .args in
-    let r = accepted (a .self) (now (a .times)) (now (a .out)) (number-taken (a .self) (now (a .times)) (now (a .out)) (within b) (c .before .before .before .before .before .if2 .left) (c .before .before .before .before .if3 .left)) in
+    let r = accepted (a .self) (now (a .times)) (now (a .out)) (number-taken (a .self) (now (a .times)) (now (a .out)) (within b) (c .before .before .before .before .before .before .if2 .left) (c .before .before .before .before .before .if3 .left)) in
     (r .0, (c .before .before .fill .ensures ∙ r .1 .0, r .1 .1))))

@@ -6,7 +6,7 @@ use native.Mathlib.Omega.{arith}
 use borrow.Author.Tests.{lt-ltb, le-ltb}
 use Rattle.keyframe.specs.Limits.{withinOf}
 use Rattle.keyframe.specs.Sampling.{valueAtOf}
-use Rattle.keyframe.proofs.Records.{few-frames}
+use Rattle.keyframe.proofs.Records.{few-frames, frames-fine}
 use Rattle.keyframe.proofs.Changes.{failed, passed}
 use Rattle.keyframe.proofs.types.Track.value.Statement.{statement}
 use Rattle.keyframe.proofs.types.Track.value.Tie as tie
@@ -22,7 +22,8 @@ value-spec =
     (λ c κs. search needs)
     (λ c. rw (failed _ _ (c .before .is-within-limits .ensures) (c .if1 .taken)))
     (λ c. rw (within (c .before .before), le-ltb 0 (c .before .before .before .before .args .self .count) (omega (arith, c .if2 .taken))))
-    (λ c κs. few-frames _ (within (c .before .before)))
-    (λ c κs. (within (c .before .before .before), omega (arith, c .before .if2 .left)))
-    (λ c.
-    rw (within (c .before .before .before .before), lt-ltb 0 (c .before .before .before .before .before .before .args .self .count) (omega (arith, c .before .before .if2 .left)), c .sample .ensures, c .before .active .ensures)))
+    (λ c κs. few-frames _ (within (c .before .before .before)))
+    (λ c κs.
+    let w = within (c .before .before .before .before) in
+    (frames-fine _ w, omega (arith, c .before .before .if2 .left), few-frames _ w))
+    (λ c. rw (within (c .before .before .before .before .before), lt-ltb 0 (c .before .before .before .before .before .before .before .args .self .count) (omega (arith, c .before .before .before .if2 .left)), c .sample .ensures, c .before .active .ensures)))

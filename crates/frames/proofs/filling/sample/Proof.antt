@@ -4,9 +4,9 @@ use mathlib.Core.Path.{ap}
 use mathlib.Core.List.{List}
 use lib.ListN.{getD}
 use lib.Ieee.{Float, nan}
-use Rattle.keyframe.specs.Batch.{filledOf}
-use Rattle.keyframe.proofs.sampling.sample.Statement.{statement}
-use Rattle.keyframe.proofs.sampling.sample.Tie as tie
+use Rattle.frames.specs.Sampling.{filledOf}
+use Rattle.frames.proofs.filling.sample.Statement.{statement}
+use Rattle.frames.proofs.filling.sample.Tie as tie
 
 pub sample-spec : {M : Type 1} → statement M
 unfolding filledOf
