@@ -2,11 +2,11 @@ pub mod Answering
 mod Blends
 mod Fills
 pub mod Halves
-pub mod Pushed
-pub mod Rising
 pub mod Owned
 pub mod Picks
 mod Places
+pub mod Pushed
+pub mod Rising
 pub mod Samples
 mod Shifts
 mod Starts
