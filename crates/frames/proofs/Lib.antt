@@ -1,0 +1,15 @@
+pub mod Answering
+mod Blends
+mod Fills
+pub mod Halves
+pub mod Owned
+pub mod Picks
+mod Places
+pub mod Pushed
+pub mod Rising
+pub mod Samples
+mod Shifts
+mod Starts
+pub mod Tops
+pub mod Walks
+mod Zeros

@@ -1,0 +1,128 @@
+-- What `pick` is given and answers: on ascending times halving finds the interval of the definition, so that the value is the sample. Assumes nothing.
+use Prim.Native.Nat.{ℕ, zero, suc, _+_, _-_, _<_, _≤_}
+use mathlib.Core.Path.{_≡_, refl, sym, ap, _∙_}
+use mathlib.Core.Bool.{Bool, true, false, cond, false≢true}
+use mathlib.Core.List.{List}
+use mathlib.Core.Logic.{_⊎_, ⊎-elim}
+use native.Mathlib.Nat.{eq-or-lt-of-le}
+use native.Mathlib.Omega.{arith}
+use lib.Dec.{T, eqb}
+use lib.ListN.{length, take, getD, List·getD-map}
+use lib.Seq.{getD-take, length-take-le}
+use lib.Ieee.{Float, nan, lt, le, isNan}
+use lib.Ieee.Bits.{is-true}
+use borrow.Author.Tests.{eqb-true}
+use Rattle.math.specs.Rounded.{zeroF}
+use Rattle.math.specs.Range.{maxZeroOf}
+use Rattle.math.proofs.Choice.{by-test}
+use Rattle.math.proofs.Order.{le-numbers, le-self, lt-le, le-chain, lt-of-not-le}
+use Rattle.math.proofs.Upward.{max-zero-up}
+use Rattle.frames.specs.declared.frame.Keyframe.{Keyframe}
+use Rattle.frames.specs.Limits.{framesOf, beforeAll, noFrame}
+use Rattle.frames.specs.Halving.{halved}
+use Rattle.frames.specs.Sampling.{timesOf, passedOf, lastOf, cutOf, betweenOf, pickOf, atOf, sampleOf}
+use Rattle.frames.proofs.Rising.{holds, each-fine, rising, time-fine, time-number}
+use Rattle.frames.proofs.Walks.{lead-is}
+use Rattle.frames.proofs.Halves.{Interval, halved-interval}
+
+pub times-at : (fs : List Keyframe) (i : ℕ) → getD (timesOf fs) i nan ≡ getD fs i noFrame .time
+times-at fs i = List·getD-map (λ (k : Keyframe). k .time) fs i noFrame
+
+-- the frames of an interval of ascending times are the last at or before t, and the next
+pub passed-interval : (l : List Keyframe) (t : Float) (i : ℕ) → framesOf l ≡ true → i + 1 < length l → le (getD l i noFrame .time) t ≡ true → le (getD l (i + 1) noFrame .time) t ≡ false → passedOf t l ≡ i + 1
+passed-interval l t i f h a z =
+    lead-is (λ (k : Keyframe). le (k .time) t) l (i + 1) (omega arith)
+    (λ j b. ⊎-elim (λ (e : j ≡ i). rw e a) (λ (e : j < i). is-true (le (getD l j noFrame .time) t) (earlier j e)) (below j i b))
+    (λ _. z)
+  where
+    below : (j i : ℕ) → j < i + 1 → (j ≡ i) ⊎ (j < i)
+    below j i b = eq-or-lt-of-le (omega (arith, b))
+
+    earlier : (j : ℕ) → j < i → T (le (getD l j noFrame .time) t)
+    earlier j e =
+        le-chain (getD l j noFrame .time) (getD l i noFrame .time) t (lt-le (getD l j noFrame .time) (getD l i noFrame .time) (rising beforeAll l f j i e (omega (arith, h))))
+        (holds (le (getD l i noFrame .time) t) a)
+
+-- only between the first and the last time are the two frames looked at
+pick-same : (first last k l m n : Keyframe) (t : Float) → (le t (first .time) ≡ false → le (last .time) t ≡ false → (k ≡ m) × (l ≡ n)) → pickOf first last k l t ≡ pickOf first last m n t
+pick-same first last k l m n t h = go (le t (first .time)) (le (last .time) t) h
+  where
+    go : (a b : Bool) → (a ≡ false → b ≡ false → (k ≡ m) × (l ≡ n))
+        → cond a (first .value) (cond b (last .value) (betweenOf k l t)) ≡ cond a (first .value) (cond b (last .value) (betweenOf m n t))
+    go true b h = refl
+    go false true h = refl
+    go false false h =
+        let e = h refl refl in
+        rw (e .0, e .1)
+
+-- the time that is sampled: a number, and at most the last time
+pub max-zero-number : (x : Float) → isNan (maxZeroOf x) ≡ false
+max-zero-number x = le-numbers zeroF (maxZeroOf x) (max-zero-up x) .1
+
+pub cut-most : (x top : Float) → isNan top ≡ false → T (le (cutOf x top) top)
+cut-most x top n = by-test (λ (z : Float). T (le z top)) (lt x top) x top (λ h. lt-le x top (holds (lt x top) h)) (λ _. le-self top n)
+
+module _ (fs : List Keyframe) (n : ℕ) (some : 1 ≤ n) (fit : n ≤ length fs) (most : n ≤ 64) (fine : framesOf (take n fs) ≡ true) where
+  long : length (take n fs) ≡ n
+  long = length-take-le n fs fit
+
+  at : (i : ℕ) → i < n → getD (take n fs) i noFrame ≡ getD fs i noFrame
+  at i h = getD-take n fs i noFrame h
+
+  number : (i : ℕ) → i < n → isNan (getD fs i noFrame .time) ≡ false
+  number i h = time-number (getD fs i noFrame .time) (time-fine (getD fs i noFrame) (rw (at i h) at (each-fine beforeAll (take n fs) fine i (omega (arith, long)))))
+
+  last-at : lastOf (take n fs) ≡ getD fs (n - 1) noFrame
+  last-at = rw long (at (n - 1) (omega arith))
+
+  module _ (t : Float) (real : isNan t ≡ false) where
+    -- the interval, where t lies between the first and the last time
+    found : le t (getD fs 0 noFrame .time) ≡ false → le (getD fs (n - 1) noFrame .time) t ≡ false → Interval (timesOf fs) t (n - 1) (halved (timesOf fs) t (n - 1))
+    found a z =
+        let low : T (lt (getD fs 0 noFrame .time) t) = lt-of-not-le t (getD fs 0 noFrame .time) real (number 0 some) a in
+        let start : le (getD fs 0 noFrame .time) t ≡ true = is-true (le (getD fs 0 noFrame .time) t) (lt-le (getD fs 0 noFrame .time) t low) in
+        halved-interval (timesOf fs) t (n - 1) (apart n some a z start) (omega arith) (rw (times-at fs 0) start) (rw (times-at fs (n - 1)) z)
+      where
+        apart : (n : ℕ) → 1 ≤ n → le t (getD fs 0 noFrame .time) ≡ false → le (getD fs (n - 1) noFrame .time) t ≡ false → le (getD fs 0 noFrame .time) t ≡ true → 0 < n - 1
+        apart zero s a z b = absurd (omega (arith, s))
+        apart (suc zero) s a z b = absurd (false≢true (sym z ∙ b))
+        apart (suc (suc n)) s a z b = omega arith
+
+    same : (i : ℕ) → Interval (timesOf fs) t (n - 1) i → (getD fs i noFrame ≡ getD (take n fs) (passedOf t (take n fs) - 1) noFrame) × (getD fs (i + 1) noFrame ≡ getD (take n fs) (passedOf t (take n fs)) noFrame)
+    same i g =
+        let h : i + 1 < n = omega (arith, g .inside) in
+        let j : i < n = omega (arith, g .inside) in
+        let a : le (getD (take n fs) i noFrame .time) t ≡ true = rw (at i j) (rw (times-at fs i) at (g .at)) in
+        let z : le (getD (take n fs) (i + 1) noFrame .time) t ≡ false = rw (at (i + 1) h) (rw (times-at fs (i + 1)) at (g .past)) in
+        let e : passedOf t (take n fs) ≡ i + 1 = passed-interval (take n fs) t i fine (omega (arith, long)) a z in
+        let d : i + 1 - 1 ≡ i = omega arith in
+        (rw (e, d) (sym (at i j)), rw e (sym (at (i + 1) h)))
+
+    pub at-time : pickOf (getD fs 0 noFrame) (getD fs (n - 1) noFrame) (getD fs (halved (timesOf fs) t (n - 1)) noFrame) (getD fs (halved (timesOf fs) t (n - 1) + 1) noFrame) t ≡ atOf (take n fs) t
+    at-time =
+        pick-same (getD fs 0 noFrame) (getD fs (n - 1) noFrame) _ _ (getD (take n fs) (passedOf t (take n fs) - 1) noFrame) (getD (take n fs) (passedOf t (take n fs)) noFrame) t (λ a z. same (halved (timesOf fs) t (n - 1)) (found a z))
+        ∙ rw (at 0 some, last-at)
+
+  -- what `pick` answers at the time that is sampled is the sample
+  module _ (secs t : Float) (cut : t ≡ cutOf (maxZeroOf secs) (getD fs (n - 1) noFrame .time)) where
+    real : isNan t ≡ false
+    real = rw cut (le-numbers (cutOf (maxZeroOf secs) (getD fs (n - 1) noFrame .time)) (getD fs (n - 1) noFrame .time) (cut-most (maxZeroOf secs) (getD fs (n - 1) noFrame .time) (number (n - 1) (omega arith))) .0)
+
+    single : n ≡ 1 → le t (getD fs 0 noFrame .time) ≡ true
+    single e =
+        let m : T (le t (getD fs (n - 1) noFrame .time)) = rw cut (cut-most (maxZeroOf secs) (getD fs (n - 1) noFrame .time) (number (n - 1) (omega arith))) in
+        let d : n - 1 ≡ 0 = omega arith in
+        is-true (le t (getD fs 0 noFrame .time)) (rw d at m)
+
+    pub picked : pickOf (getD fs 0 noFrame) (getD fs (n - 1) noFrame) (getD fs (halved (timesOf fs) t (n - 1)) noFrame) (getD fs (halved (timesOf fs) t (n - 1) + 1) noFrame) t ≡ sampleOf (take n fs) secs
+    unfolding sampleOf
+    picked =
+        by-test (λ (v : Float). pickOf (getD fs 0 noFrame) (getD fs (n - 1) noFrame) (getD fs (halved (timesOf fs) t (n - 1)) noFrame) (getD fs (halved (timesOf fs) t (n - 1) + 1) noFrame) t ≡ v) (eqb (length (take n fs)) 1) _ _
+        (λ e. let o : n ≡ 1 = sym long ∙ eqb-true (length (take n fs)) 1 e in rw (single o, at 0 some))
+        (λ e. at-time t real ∙ ap (atOf (take n fs)) (cut ∙ rw last-at))
+
+  -- the same, of what the calls on the way answer
+  pub picked-by : (secs x t v : Float) (starts : List Float) (low : ℕ) → x ≡ maxZeroOf secs → t ≡ cutOf x (getD fs (n - 1) noFrame .time) → starts ≡ timesOf fs → low ≡ halved starts t (n - 1)
+      → v ≡ pickOf (getD fs 0 noFrame) (getD fs (n - 1) noFrame) (getD fs low noFrame) (getD fs (low + 1) noFrame) t
+      → v ≡ sampleOf (take n fs) secs
+  picked-by secs x t v starts low ex et es el ev = ev ∙ (rw (el, es) (picked secs t (rw ex at et)))

@@ -1,0 +1,182 @@
+-- Samples: before and after all frames, and that every sample is finite. Assumes nothing.
+use Prim.Native.Nat.{ℕ, zero, suc, _-_, _<_, _≤_}
+use mathlib.Core.Path.{_≡_, refl, ap, _∙_}
+use mathlib.Core.Bool.{true, false, not}
+use mathlib.Core.List.{List}
+use native.Mathlib.Omega.{arith}
+use borrow.Author.Tests.{eqb-true, eqb-false}
+use lib.Dec.{T, eqb, lit≤}
+use lib.IntN.{pos}
+use lib.ListN.{length, getD}
+use lib.Ieee.{Float, binary32, lt, le, isNan, ofInt, ofBits}
+use lib.Ieee.Bits.{is-true}
+use Rattle.math.specs.Whole.{Is}
+use Rattle.math.specs.Rounded.{_⊖_, _⊘_, _⊗_, zeroF, topF}
+use Rattle.math.specs.Range.{finiteOf, valueOf, clamp01Of, maxZeroOf, Within, AtMost}
+use Rattle.math.proofs.Choice.{by-test}
+use Rattle.math.proofs.Order.{le-numbers, le-self, le-chain, lt-le, lt-le-chain, not-lt-of-le, le-of-not-lt, le-turned, lt-of-not-le, lt-not-eq}
+use Rattle.math.proofs.Numbers.{div-number}
+use Rattle.math.proofs.Upward.{max-zero-up}
+use Rattle.math.proofs.Sizes.{at-most-finite, at-most-more, size-at-most, sub-near, sub-at-most, mul-at-most, add-at-most}
+use Rattle.math.proofs.Bounded.{zero-most}
+use Rattle.math.proofs.Ranges.{clamped}
+use Rattle.math.proofs.Wholes.{whole-is}
+use Rattle.easing.specs.declared.kinds.Easing.{Easing}
+use Rattle.easing.specs.declared.answers.Eased.{Eased}
+use Rattle.easing.specs.declared.answers.Eased.the-variants.{Value, Refused}
+use Rattle.easing.specs.Apply.{applyOf}
+use Rattle.easing.proofs.Finite.{apply-bounded}
+use Rattle.frames.specs.declared.frame.Keyframe.{Keyframe}
+use Rattle.frames.specs.Limits.{frameOf, framesOf, beforeAll, noFrame}
+use Rattle.frames.specs.Sampling.{passedOf, firstOf, lastOf, cutOf, epsilon, spanOf, valueIn, easedOf, betweenOf, atOf, sampleOf}
+use Rattle.frames.proofs.Rising.{holds, each-fine, rising, time-fine, value-fine}
+use Rattle.frames.proofs.Tops.{Clock, top-is, clock-most, time-clock}
+use Rattle.frames.proofs.Walks.{lead-some, lead-below}
+
+epsilon-finite : T (finiteOf epsilon)
+unfolding ofBits
+epsilon-finite = tt
+
+epsilon-above : T (lt zeroF epsilon)
+unfolding lt ofBits
+epsilon-above = tt
+
+-- how far through a span t is
+module _ (t x y : Float) (ct : Clock t) (cx : Clock x) (cy : Clock y) where
+  held-24 : Is (ofInt binary32 (pos 16777216)) 16777216
+  held-24 = whole-is binary32 16777216 (lit≤ tt)
+
+  apart-finite : (u v : Float) → Clock u → Clock v → T (finiteOf (u ⊖ v))
+  apart-finite u v cu cv = at-most-finite 16777216 (u ⊖ v) (sub-near binary32 16777216 held-24 u v (cu .0) (cv .0) (clock-most u cu) (clock-most v cv))
+
+  pub span-finite : T (finiteOf (spanOf (y ⊖ x)))
+  span-finite = by-test (λ (z : Float). T (finiteOf z)) (lt epsilon (y ⊖ x)) (y ⊖ x) epsilon (λ _. apart-finite y x cy cx) (λ _. epsilon-finite)
+
+  pub span-above : T (lt zeroF (spanOf (y ⊖ x)))
+  span-above = by-test (λ (z : Float). T (lt zeroF z)) (lt epsilon (y ⊖ x)) (y ⊖ x) epsilon (λ h. lt-le-chain zeroF epsilon (y ⊖ x) epsilon-above (lt-le epsilon (y ⊖ x) (holds (lt epsilon (y ⊖ x)) h))) (λ _. epsilon-above)
+
+  pub local-within : Within (clamp01Of ((t ⊖ x) ⊘ spanOf (y ⊖ x)))
+  local-within = clamped ((t ⊖ x) ⊘ spanOf (y ⊖ x)) (div-number binary32 (t ⊖ x) (spanOf (y ⊖ x)) (apart-finite t x ct cx) span-finite (lt-not-eq zeroF (spanOf (y ⊖ x)) span-above))
+
+-- a blend of two values by an eased progress
+pub held-25 : Is (ofInt binary32 (pos 33554432)) 33554432
+unfolding ofInt
+held-25 = (refl, refl)
+
+held-52 : Is (ofInt binary32 (pos 4503599627370496)) 4503599627370496
+unfolding ofInt
+held-52 = (refl, refl)
+
+held-53 : Is (ofInt binary32 (pos 9007199254740992)) 9007199254740992
+unfolding ofInt
+held-53 = (refl, refl)
+
+pub value-most : (x : Float) → valueOf x ≡ true → AtMost 16777216 x
+value-most x h = size-at-most 16777216 x topF top-is (holds (valueOf x) h)
+
+eased-most : (e : Easing) (p : Float) → AtMost 134217728 (easedOf e p)
+eased-most e p = go (applyOf e p) refl
+  where
+    go : (r : Eased) → applyOf e p ≡ r → AtMost 134217728 (valueIn r)
+    go (Value v) h = apply-bounded e p v h
+    go (Refused r) h = zero-most 134217728
+
+between-most : (k l : Keyframe) (t : Float) → frameOf k ≡ true → frameOf l ≡ true → AtMost 9007199254740992 (betweenOf k l t)
+unfolding betweenOf
+between-most k l t f g =
+    let c = easedOf (k .easing) (clamp01Of ((t ⊖ k .time) ⊘ spanOf (l .time ⊖ k .time))) in
+    let a = value-most (k .value) (value-fine k f) in
+    let b = value-most (l .value) (value-fine l g) in
+    let d = sub-at-most binary32 33554432 held-25 16777216 16777216 (l .value) (k .value) (lit≤ tt) b a in
+    let m = mul-at-most binary32 4503599627370496 held-52 33554432 134217728 (l .value ⊖ k .value) c (lit≤ tt) d (eased-most (k .easing) (clamp01Of ((t ⊖ k .time) ⊘ spanOf (l .time ⊖ k .time)))) in
+    add-at-most binary32 9007199254740992 held-53 16777216 4503599627370496 (k .value) ((l .value ⊖ k .value) ⊗ c) (lit≤ tt) a m
+
+-- the time that is sampled: from 0 to the last time, or that time
+module _ (l : List Keyframe) (fine : framesOf l ≡ true) (some : 0 < length l) where
+  frame-fine : (i : ℕ) → i < length l → frameOf (getD l i noFrame) ≡ true
+  frame-fine i h = each-fine beforeAll l fine i h
+
+  last-place : length l - 1 < length l
+  last-place = omega (arith, some)
+
+  first-clock : Clock (firstOf l .time)
+  first-clock = time-clock (firstOf l .time) (time-fine (firstOf l) (frame-fine 0 some))
+
+  last-clock : Clock (lastOf l .time)
+  last-clock = time-clock (lastOf l .time) (time-fine (lastOf l) (frame-fine (length l - 1) last-place))
+
+  number-first : isNan (firstOf l .time) ≡ false
+  number-first = le-numbers zeroF (firstOf l .time) (first-clock .0) .1
+
+  number-last : isNan (lastOf l .time) ≡ false
+  number-last = le-numbers zeroF (lastOf l .time) (last-clock .0) .1
+
+  first-last : T (le (firstOf l .time) (lastOf l .time))
+  first-last = go (length l - 1) last-place
+    where
+      go : (i : ℕ) → i < length l → T (le (firstOf l .time) (getD l i noFrame .time))
+      go zero h = le-self (firstOf l .time) number-first
+      go (suc i) h = lt-le (firstOf l .time) (getD l (suc i) noFrame .time) (rising beforeAll l fine 0 (suc i) (omega arith) h)
+
+  -- the frames beside a time between the first and the last
+  module _ (t : Float) (real : isNan t ≡ false) (a : le t (firstOf l .time) ≡ false) (z : le (lastOf l .time) t ≡ false) where
+    first-passed : le (firstOf l .time) t ≡ true
+    first-passed = is-true (le (firstOf l .time) t) (lt-le (firstOf l .time) t (lt-of-not-le t (firstOf l .time) real number-first a))
+
+    pub passed-low : 0 < passedOf t l
+    passed-low = lead-some (λ (k : Keyframe). le (k .time) t) l some first-passed
+
+    pub passed-high : passedOf t l ≤ length l - 1
+    passed-high = lead-below (λ (k : Keyframe). le (k .time) t) l (length l - 1) last-place z
+
+  cut-number : (secs : Float) → isNan (cutOf (maxZeroOf secs) (lastOf l .time)) ≡ false
+  cut-number secs = by-test (λ (x : Float). isNan x ≡ false) (lt (maxZeroOf secs) (lastOf l .time)) (maxZeroOf secs) (lastOf l .time) (λ _. le-numbers zeroF (maxZeroOf secs) (max-zero-up secs) .1) (λ _. number-last)
+
+  -- sampling answers are finite
+  pub sample-most : (secs : Float) → AtMost 9007199254740992 (sampleOf l secs)
+  unfolding sampleOf
+  sample-most secs =
+      let t = cutOf (maxZeroOf secs) (lastOf l .time) in
+      let first : AtMost 9007199254740992 (firstOf l .value) = at-most-more 16777216 9007199254740992 (firstOf l .value) (lit≤ tt) (value-most (firstOf l .value) (value-fine (firstOf l) (frame-fine 0 some))) in
+      let last : AtMost 9007199254740992 (lastOf l .value) = at-most-more 16777216 9007199254740992 (lastOf l .value) (lit≤ tt) (value-most (lastOf l .value) (value-fine (lastOf l) (frame-fine (length l - 1) last-place))) in
+      by-test (AtMost 9007199254740992) (eqb (length l) 1) (firstOf l .value) (atOf l t) (λ _. first)
+      (λ _.
+      by-test (AtMost 9007199254740992) (le t (firstOf l .time)) (firstOf l .value) _ (λ _. first)
+      (λ a.
+      by-test (AtMost 9007199254740992) (le (lastOf l .time) t) (lastOf l .value) (betweenOf (getD l (passedOf t l - 1) noFrame) (getD l (passedOf t l) noFrame) t) (λ _. last)
+      (λ z.
+      let low = passed-low t (cut-number secs) a z in
+      let high = passed-high t (cut-number secs) a z in
+      between-most (getD l (passedOf t l - 1) noFrame) (getD l (passedOf t l) noFrame) t (frame-fine (passedOf t l - 1) (omega (arith, low, high, some))) (frame-fine (passedOf t l) (omega (arith, high, some))))))
+
+  pub sample-finite : (secs : Float) → T (finiteOf (sampleOf l secs))
+  sample-finite secs = at-most-finite 9007199254740992 (sampleOf l secs) (sample-most secs)
+
+  -- at or before the first time
+  pub sample-first : (secs : Float) → T (le secs (firstOf l .time)) → sampleOf l secs ≡ firstOf l .value
+  unfolding sampleOf
+  sample-first secs h =
+      let x : T (le (maxZeroOf secs) (firstOf l .time)) = by-test (λ (z : Float). T (le z (firstOf l .time))) (lt zeroF secs) secs zeroF (λ _. h) (λ _. first-clock .0) in
+      let t : T (le (cutOf (maxZeroOf secs) (lastOf l .time)) (firstOf l .time)) = by-test (λ (z : Float). T (le z (firstOf l .time))) (lt (maxZeroOf secs) (lastOf l .time)) (maxZeroOf secs) (lastOf l .time) (λ _. x) (λ k. le-chain (lastOf l .time) (maxZeroOf secs) (firstOf l .time) (le-of-not-lt (maxZeroOf secs) (lastOf l .time) (le-numbers (maxZeroOf secs) (firstOf l .time) x .0) number-last k) x) in
+      by-test (λ (v : Float). v ≡ firstOf l .value) (eqb (length l) 1) (firstOf l .value) (atOf l (cutOf (maxZeroOf secs) (lastOf l .time))) (λ _. refl)
+      (λ _. rw (is-true (le (cutOf (maxZeroOf secs) (lastOf l .time)) (firstOf l .time)) t))
+
+  -- at or after the last
+  after-last : (secs : Float) → T (le (lastOf l .time) secs) → cutOf (maxZeroOf secs) (lastOf l .time) ≡ lastOf l .time
+  after-last secs h =
+      let n = le-numbers (lastOf l .time) secs h .1 in
+      let x : T (le (lastOf l .time) (maxZeroOf secs)) = by-test (λ (z : Float). T (le (lastOf l .time) z)) (lt zeroF secs) secs zeroF (λ _. h) (λ k. le-chain (lastOf l .time) secs zeroF h (le-of-not-lt zeroF secs (le-numbers zeroF (lastOf l .time) (last-clock .0) .0) n k)) in
+      rw (not-lt-of-le (lastOf l .time) (maxZeroOf secs) x)
+
+  pub sample-last : (secs : Float) → T (le (lastOf l .time) secs) → sampleOf l secs ≡ lastOf l .value
+  unfolding sampleOf
+  sample-last secs h =
+      by-test (λ (v : Float). v ≡ lastOf l .value) (eqb (length l) 1) (firstOf l .value) (atOf l (cutOf (maxZeroOf secs) (lastOf l .time)))
+      (λ e.
+      let d : length l - 1 ≡ 0 = omega (arith, eqb-true (length l) 1 e) in
+      rw d)
+      (λ e.
+      let one : length l ≡ 1 → ⊥ = eqb-false (length l) 1 e in
+      let b : 0 < length l - 1 = omega (arith, one, some) in
+      let f : le (lastOf l .time) (firstOf l .time) ≡ false = le-turned (lastOf l .time) (firstOf l .time) number-last number-first ∙ ap not (is-true (lt (firstOf l .time) (lastOf l .time)) (rising beforeAll l fine 0 (length l - 1) b last-place)) in
+      rw (after-last secs h, f, is-true (le (lastOf l .time) (lastOf l .time)) (le-self (lastOf l .time) number-last)))

@@ -1,0 +1,72 @@
+-- Floats from 0 to 16,777,216: the times of frames, and what stays among them. Assumes nothing.
+use mathlib.Core.Path.{_≡_, refl, subst⁻¹}
+use mathlib.Core.Bool.{true, false}
+use Prim.Native.Nat.{ℕ, _*_, _≤_}
+use native.Mathlib.Omega.{arith}
+use lib.Dec.{T, lit≤, le→leb}
+use lib.Ieee.{Float, nan, inf, fin, binary32, up, down, lt, le, eq, ofBits}
+use lib.Ieee.Bits.{is-true}
+use Rattle.math.specs.Whole.{Is}
+use Rattle.math.specs.Rounded.{_⊗_, zeroF, topF}
+use Rattle.math.specs.Range.{finiteOf, betweenOf, Within, AtMost}
+use Rattle.math.proofs.Choice.{and-both}
+use Rattle.math.proofs.Order.{le-sizes}
+use Rattle.math.proofs.Upward.{Up, mul-up}
+use Rattle.math.proofs.Sizes.{up-to, at-most-finite}
+use Rattle.math.proofs.Bounded.{shrunk}
+use Rattle.math.proofs.Ranges.{within-at-most}
+use Rattle.math.proofs.Wholes.{fraction-le}
+use Rattle.frames.specs.Limits.{plusOf, timeOf}
+use Rattle.frames.proofs.Rising.{holds, time-top}
+
+-- from 0 to 16,777,216
+abbrev pub Clock : Float → Type 0
+Clock x = Up x × T (le x topF)
+
+pub top-is : Is topF 16777216
+unfolding ofBits
+top-is = (refl, refl)
+
+pub clock-most : (x : Float) → Clock x → AtMost 16777216 x
+clock-most x c = up-to 16777216 x topF top-is (c .0) (c .1)
+
+pub clock-finite : (x : Float) → Clock x → T (finiteOf x)
+clock-finite x c = at-most-finite 16777216 x (clock-most x c)
+
+most-top : (x : Float) → Up x → AtMost 16777216 x → T (le x topF)
+unfolding le lt eq ofBits
+most-top nan u h = absurd h
+most-top (inf s) u h = absurd h
+most-top (fin false m e) u h = subst⁻¹ T (fraction-le topF 16777216 m e top-is) (le→leb (m * up e) (16777216 * down e) h)
+most-top (fin true m e) u h = subst⁻¹ T (le-sizes true false (m * up e * 1) (16777216 * 1 * down e)) tt
+
+-- as a test
+pub clock-test : (x : Float) → Clock x → betweenOf zeroF topF x ≡ true
+clock-test x c = rw (is-true (le zeroF x) (c .0), is-true (le x topF) (c .1))
+
+pub test-clock : (x : Float) → betweenOf zeroF topF x ≡ true → Clock x
+test-clock x h =
+    let b = and-both (le zeroF x) (le x topF) h in
+    (holds (le zeroF x) (b .0), holds (le x topF) (b .1))
+
+-- a frame's time
+pub plus-up : (x : Float) → plusOf x ≡ true → T (le x topF) → Up x
+unfolding le lt eq ofBits
+plus-up nan p h = absurd h
+plus-up (inf true) p h = absurd (holds false p)
+plus-up (inf false) p h = tt
+plus-up (fin true m e) p h = absurd (holds false p)
+plus-up (fin false m e) p h = subst⁻¹ T (le-sizes false false (0 * 1 * down e) (m * up e * 1)) (le→leb (0 * 1 * down e) (m * up e * 1) (least (m * up e) (down e)))
+  where
+    least : (a d : ℕ) → 0 * 1 * d ≤ a * 1
+    least a d = omega arith
+
+pub time-clock : (x : Float) → timeOf x ≡ true → Clock x
+unfolding timeOf
+time-clock x h = (plus-up x (and-both (plusOf x) (le x topF) h .0) (time-top x h), time-top x h)
+
+-- a part of it
+pub shrunk-clock : (x p : Float) → Clock x → Within p → Clock (x ⊗ p)
+shrunk-clock x p c w =
+    let u = mul-up binary32 x p (clock-finite x c) (at-most-finite 1 p (within-at-most p w)) (c .0) (w .0) in
+    (u, most-top (x ⊗ p) u (shrunk 16777216 (lit≤ tt) x p (clock-most x c) (within-at-most p w)))

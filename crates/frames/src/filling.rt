@@ -1,0 +1,54 @@
+// The samples of frames at many times.
+ghost use mathlib.Core.Path.{_≡_};
+ghost use mathlib.Core.Bool.{true};
+ghost use Prim.Native.Nat.{_<_, _≤_};
+ghost use lib.ListN.{length, take};
+ghost use Rattle.frames.specs.Limits.{framesOf};
+ghost use Rattle.frames.specs.Sampling.{timesOf, sampleOf, filledOf};
+use crate::frame::Keyframe;
+use crate::sampling::cut;
+use crate::sampling::pick;
+use crate::search::interval;
+
+fn times_of(frames: [Keyframe; 64]) -> [f32; 64]
+    ensures { λ r. ⌜ r ≡ timesOf frames ⌝ }
+{
+    let mut times = [0.0f32; 64];
+    let mut i: usize = 0;
+    while i < 64 {
+        times[i] = frames[i].time;
+        i += 1;
+    }
+    times
+}
+
+// The sample of the first n frames at each time goes into the front of out. The frames stay where
+// they are: only the two beside a time are copied.
+pub fn fill(frames: [Keyframe; 64], n: usize, times: &[f32], out: &mut [f32])
+    requires { ⌜ (framesOf (take n frames) ≡ true) × (0 < n) × (n ≤ 64) × (length (now times) ≤ length (now out)) ⌝ }
+    ensures { λ _. ⌜ now (out .exit) ≡ filledOf (take n frames) (now (times .entry)) (now (out .entry)) ⌝ }
+{
+    let first = frames[0];
+    let last = frames[n - 1];
+    let starts = times_of(frames);
+    let mut i: usize = 0;
+    while i < times.len() {
+        let t = cut(math::max_zero(times[i]), last.time);
+        let low = interval(&starts, n, t);
+        let k = frames[low];
+        let l = frames[low + 1];
+        out[i] = pick(first, last, k, l, t);
+        i += 1;
+    }
+}
+
+// One time is a list of one.
+pub fn sample(frames: [Keyframe; 64], n: usize, secs: f32) -> f32
+    requires { ⌜ (framesOf (take n frames) ≡ true) × (0 < n) × (n ≤ 64) ⌝ }
+    ensures { λ r. ⌜ r ≡ sampleOf (take n frames) secs ⌝ }
+{
+    let times = [secs];
+    let mut out = [0.0f32];
+    fill(frames, n, &times, &mut out);
+    out[0]
+}

@@ -1,0 +1,23 @@
+// The limits of a frame.
+ghost use mathlib.Core.Path.{_≡_};
+ghost use Rattle.frames.specs.Limits.{timeOf, frameOf};
+use crate::frame::Keyframe;
+
+// Finite, from +0 to 16,777,216 seconds: -0 is none.
+pub fn is_time(t: f32) -> bool
+    ensures { λ r. ⌜ r ≡ timeOf t ⌝ }
+{
+    if t == 0.0 {
+        return f32::to_bits(t) == 0;
+    }
+    (0.0 < t) & (t <= 16777216.0)
+}
+
+impl Keyframe {
+    pub fn is_within_limits(self) -> bool
+        ensures { λ r. ⌜ r ≡ frameOf self ⌝ }
+    {
+        let easing = self.easing;
+        is_time(self.time) & math::is_value(self.value) & easing.fits_record()
+    }
+}

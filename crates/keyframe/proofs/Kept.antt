@@ -1,0 +1,198 @@
+-- Every call that is handed a track within its limits hands back one within them. Assumes nothing.
+use Prim.Native.Nat.{ℕ, _-_, _<_, _≤_}
+use mathlib.Core.Path.{_≡_, refl, subst⁻¹}
+use mathlib.Core.Bool.{Bool, true, false, _&&_}
+use mathlib.Core.List.{List, _++_}
+use native.Mathlib.Nat.{le-refl}
+use native.Mathlib.Omega.{arith}
+use borrow.Author.Tests.{eqb-false, leb-true, le-leb}
+use lib.Dec.{T, leb, eqb, lit≤, le→leb}
+use lib.IntN.{pos}
+use lib.ListN.{length, take, drop}
+use lib.Seq.{take-at}
+use lib.Ieee.{Float, binary32, lt, le, eq, isNan, ofInt, ofBits}
+use Rattle.math.specs.Whole.{Is}
+use Rattle.math.specs.Rounded.{_⊕_, _⊗_, zeroF, topF}
+use Rattle.math.specs.Range.{valueOf, clamp01Of, maxZeroOf}
+use Rattle.math.proofs.Choice.{by-test, and-both}
+use Rattle.math.proofs.Order.{le-numbers, le-chain, lt-le, lt-le-chain, lt-of-not-le, le-of-not-lt}
+use Rattle.math.proofs.Upward.{Up, add-up, mul-up, max-zero-up}
+use Rattle.math.proofs.Sizes.{at-most-finite, is-at-most}
+use Rattle.math.proofs.Ranges.{clamped}
+use Rattle.math.proofs.Wholes.{whole-is, zero-is, le-is}
+use Rattle.easing.specs.declared.kinds.Easing.{Easing}
+use Rattle.easing.specs.Kinds.{suppliedOf}
+use Rattle.easing.specs.Params as params
+use Rattle.easing.specs.Apply.{fitsRecordOf}
+use Rattle.loop_mode.specs.declared.Loop.{Loop}
+use Rattle.loop_mode.specs.declared.Loop.the-variants.{Once, Times, Forever, PingPong, PingPongTimes}
+use Rattle.loop_mode.specs.Passes as passes
+use Rattle.frames.specs.declared.frame.Keyframe.{Keyframe}
+use Rattle.frames.specs.Limits.{timeOf, frameOf, framesAfter, framesOf, beforeAll}
+use Rattle.frames.specs.declared.frame.Put.{Put}
+use Rattle.frames.specs.Sampling.{durationOf, lastOf}
+use Rattle.frames.specs.Pushing.{pushedOf, putOf}
+use Rattle.frames.proofs.Pushed.{pushed-fine, pushed-last}
+use Rattle.frames.proofs.Rising.{holds, each-fine, time-fine}
+use Rattle.frames.proofs.Tops.{Clock, clock-finite, clock-test, test-clock, time-clock, shrunk-clock}
+use Rattle.keyframe.specs.declared.types.Track.{Track}
+use Rattle.keyframe.specs.declared.types.Changed.{Changed}
+use Rattle.keyframe.specs.declared.types.Updated.{Updated}
+use Rattle.keyframe.specs.declared.types.End.{End}
+use Rattle.keyframe.specs.declared.types.End.the-variants.{At, Never}
+use Rattle.keyframe.specs.Limits.{framesIn, baseOf, overPasses, endOf, modeFits, clockFits, withinOf, Fine}
+use Rattle.keyframe.specs.Pushing.{newTrack, storedOf, laterOf, takesOf, withFrames, withMode, placedOf, pushOf, loopingOf}
+use Rattle.keyframe.specs.Playback.{doneOf}
+use Rattle.keyframe.specs.Stepping.{movedOf, lostOf, advanceOf, updateOf, resetOf, spanIn, soughtOf, seekToOf}
+use Rattle.keyframe.proofs.Records.{few-frames, frames-fine, elapsed-fine, mode-fine}
+
+make : (t : Track) → t .count ≤ 64 → framesOf (framesIn t) ≡ true → Clock (t .elapsed) → modeFits (t .looping) (baseOf t) ≡ true → Fine t
+unfolding withinOf clockFits
+make t n f c m = rw (le-leb (t .count) 64 n, f, clock-test (t .elapsed) c, m)
+
+pub new-within : Fine newTrack
+unfolding newTrack withinOf clockFits modeFits endOf durationOf framesAfter passes.withinOf le lt eq ofBits
+new-within = refl
+
+-- times
+zero-clock : Clock zeroF
+unfolding le lt eq ofBits
+zero-clock = (tt, tt)
+
+passes-clock : (base : Float) (n : ℕ) → Clock base → leb n 65535 ≡ true → Up (overPasses base n)
+passes-clock base n c h =
+    let l : passes.passesOf n ≤ 65535 = by-test (λ (m : ℕ). m ≤ 65535) (eqb n 0) 1 n (λ _. lit≤ tt) (λ _. leb-true n 65535 h) in
+    let v : Is (ofInt binary32 (pos (passes.passesOf n))) (passes.passesOf n) = whole-is binary32 (passes.passesOf n) (omega (arith, l)) in
+    let u : Up (ofInt binary32 (pos (passes.passesOf n))) = subst⁻¹ T (le-is zeroF (ofInt binary32 (pos (passes.passesOf n))) 0 (passes.passesOf n) zero-is v) (le→leb 0 (passes.passesOf n) (omega arith)) in
+    mul-up binary32 base (ofInt binary32 (pos (passes.passesOf n))) (clock-finite base c) (at-most-finite (passes.passesOf n) (ofInt binary32 (pos (passes.passesOf n))) (is-at-most (ofInt binary32 (pos (passes.passesOf n))) (passes.passesOf n) (passes.passesOf n) v (le-refl (passes.passesOf n)))) (c .0) u
+
+-- where playback ends, it ends in time
+abbrev Timely : End → Type 0
+Timely (At total) = Clock total
+Timely Never = Unit {0}
+
+end-timely : (m : Loop) (base : Float) → Clock base → modeFits m base ≡ true → Timely (endOf m base)
+unfolding modeFits endOf passes.withinOf
+end-timely Once base c h = c
+end-timely (Times n) base c h =
+    let b = and-both (leb n 65535) (le (overPasses base n) topF) h in
+    (passes-clock base n c (b .0), holds (le (overPasses base n) topF) (b .1))
+end-timely Forever base c h = tt
+end-timely PingPong base c h = tt
+end-timely (PingPongTimes n) base c h =
+    let b = and-both (leb n 65535) (le (overPasses base n) topF) h in
+    (passes-clock base n c (b .0), holds (le (overPasses base n) topF) (b .1))
+
+duration-clock : (l : List Keyframe) → framesOf l ≡ true → Clock (durationOf l)
+unfolding durationOf
+duration-clock l f =
+    by-test Clock (eqb (length l) 0) zeroF (lastOf l .time) (λ _. zero-clock)
+    (λ e.
+    let some : length l ≡ 0 → ⊥ = eqb-false (length l) 0 e in
+    let b : length l - 1 < length l = omega (arith, some) in
+    time-clock (lastOf l .time) (time-fine (lastOf l) (each-fine beforeAll l f (length l - 1) b)))
+
+module _ (t : Track) (fine : Fine t) where
+  base-clock : Clock (baseOf t)
+  base-clock = duration-clock (framesIn t) (frames-fine t fine)
+
+  timely : Timely (endOf (t .looping) (baseOf t))
+  timely = end-timely (t .looping) (baseOf t) base-clock (mode-fine t fine)
+
+  moved-within : (e : Float) (c : ℕ) (b : Bool) → Clock e → Fine (movedOf t e c b)
+  moved-within e c b k = make (movedOf t e c b) (few-frames t fine) (frames-fine t fine) k (mode-fine t fine)
+
+  -- update
+  advance-within : (end : End) → Timely end → (sum : Float) → Up sum → Fine (advanceOf end t sum .track)
+  unfolding advanceOf
+  advance-within (At total) k sum u =
+      by-test (λ (r : Updated). Fine (r .track)) (le total sum) _ _ (λ _. moved-within total _ _ k)
+      (λ h. moved-within sum _ _ (u, le-chain sum total topF (lt-le sum total (lt-of-not-le total sum (le-numbers total topF (k .1) .0) (le-numbers zeroF sum u .1) h)) (k .1)))
+  advance-within Never k sum u =
+      by-test (λ (r : Updated). Fine (r .track)) (lt topF sum) _ _ (λ _. fine)
+      (λ h. moved-within sum _ _ (u, le-of-not-lt topF sum top-number (le-numbers zeroF sum u .1) h))
+    where
+      top-number : isNan topF ≡ false
+      top-number = le-numbers zeroF topF (zero-clock .1) .1
+
+  pub update-within : (dt : Float) → Fine (updateOf t dt .track)
+  unfolding updateOf
+  update-within dt =
+      rw fine
+      (by-test (λ (r : Updated). Fine (r .track)) (lt topF dt) _ _ (λ _. fine)
+      (λ _.
+      by-test (λ (r : Updated). Fine (r .track)) (doneOf t) _ _ (λ _. fine)
+      (λ _.
+      by-test (λ (r : Updated). Fine (r .track)) (lostOf (t .elapsed) (maxZeroOf dt)) _ _ (λ _. fine)
+      (λ _. advance-within (endOf (t .looping) (baseOf t)) timely (t .elapsed ⊕ maxZeroOf dt) (add-up binary32 (t .elapsed) (maxZeroOf dt) (test-clock (t .elapsed) (elapsed-fine t fine) .0) (max-zero-up dt))))))
+
+  pub reset-within : Fine (resetOf t .track)
+  unfolding resetOf
+  reset-within = rw fine (moved-within zeroF 0 false zero-clock)
+
+  -- seek_to
+  span-clock : (end : End) → Timely end → Clock (spanIn end (baseOf t))
+  span-clock (At total) k = k
+  span-clock Never k = base-clock
+
+  pub seek-within : (p : Float) → Fine (seekToOf t p .track)
+  unfolding seekToOf soughtOf
+  seek-within p =
+      rw fine
+      (by-test (λ (r : Changed). Fine (r .track)) (isNan p) _ _ (λ _. fine)
+      (λ h.
+      let end = endOf (t .looping) (baseOf t) in
+      by-test Fine (eq (spanIn end (baseOf t)) zeroF) _ _ (λ _. moved-within zeroF 0 true zero-clock)
+      (λ _. moved-within (spanIn end (baseOf t) ⊗ clamp01Of p) _ _ (shrunk-clock (spanIn end (baseOf t)) (clamp01Of p) (span-clock end timely) (clamped p h)))))
+
+  pub mode-within : (m : Loop) → Fine (loopingOf t m .track)
+  unfolding loopingOf
+  mode-within m =
+      rw fine
+      (by-test (λ (r : Changed). Fine (r .track)) (modeFits m (baseOf t)) _ _
+      (λ h. make (withMode t m) (few-frames t fine) (frames-fine t fine) (test-clock (t .elapsed) (elapsed-fine t fine)) h)
+      (λ _. fine))
+
+-- push
+before-zero : T (lt beforeAll zeroF)
+unfolding lt ofBits
+before-zero = tt
+
+module _ (t : Track) (fine : Fine t) (k : Keyframe) (good : frameOf k ≡ true) (fits : modeFits (t .looping) (laterOf (baseOf t) (k .time)) ≡ true) where
+  clock : Clock (k .time)
+  clock = time-clock (k .time) (time-fine k good)
+
+  grown-fine : framesOf (pushedOf k (framesIn t)) ≡ true
+  grown-fine = pushed-fine k good beforeAll (framesIn t) (lt-le-chain beforeAll zeroF (k .time) before-zero (clock .0)) (frames-fine t fine)
+
+  grown-mode : modeFits (t .looping) (durationOf (pushedOf k (framesIn t))) ≡ true
+  grown-mode = rw (pushed-last k (le-numbers zeroF (k .time) (clock .0) .1) (clock .0) (framesIn t) (frames-fine t fine)) fits
+
+  placed-within : Fine (placedOf t (putOf (t .frames) (t .count) k) .track)
+  unfolding putOf placedOf
+  placed-within =
+      let l = pushedOf k (framesIn t) in
+      by-test (λ (p : Put). Fine (placedOf t p .track)) (leb (length l) 64) (record { frames = l ++ drop (length l) (t .frames); count = length l; full = false }) (record { frames = t .frames; count = t .count; full = true })
+      (λ h.
+      let e : take (length l) (l ++ drop (length l) (t .frames)) ≡ l = take-at l (drop (length l) (t .frames)) (length l) refl in
+      make (withFrames t (l ++ drop (length l) (t .frames)) (length l)) (leb-true (length l) 64 h) (rw e grown-fine) (test-clock (t .elapsed) (elapsed-fine t fine)) (rw e grown-mode))
+      (λ _. fine)
+
+pub push-within : (t : Track) → Fine t → (time value : Float) (e : Easing) → Fine (pushOf t time value e .track)
+unfolding pushOf takesOf frameOf fitsRecordOf
+push-within t fine time value e =
+    rw fine
+    (by-test (λ (r : Changed). Fine (r .track)) (suppliedOf e) _ _
+    (λ s.
+    by-test (λ (r : Changed). Fine (r .track)) (params.withinOf (params.paramsOf e)) _ _
+    (λ p. by-test (λ (r : Changed). Fine (r .track)) (takesOf t (storedOf time) value) _ _ (λ h. placed-within t fine (record { time = storedOf time; value = value; easing = e }) (framed (storedOf time) h s p) (fitting (storedOf time) h)) (λ _. fine))
+    (λ _. fine))
+    (λ _. fine))
+  where
+    framed : (x : Float) → takesOf t x value ≡ true → suppliedOf e ≡ true → params.withinOf (params.paramsOf e) ≡ true → frameOf (record { time = x; value = value; easing = e }) ≡ true
+    framed x h s p =
+        let a = and-both (timeOf x && valueOf value) (modeFits (t .looping) (laterOf (baseOf t) x)) h .0 in
+        rw (and-both (timeOf x) (valueOf value) a .0, and-both (timeOf x) (valueOf value) a .1, s, p)
+
+    fitting : (x : Float) → takesOf t x value ≡ true → modeFits (t .looping) (laterOf (baseOf t) x) ≡ true
+    fitting x h = and-both (timeOf x && valueOf value) (modeFits (t .looping) (laterOf (baseOf t) x)) h .1

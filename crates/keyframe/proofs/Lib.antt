@@ -1,0 +1,6 @@
+pub mod Batches
+mod Changes
+pub mod Kept
+mod Moves
+pub mod Promises
+pub mod Records

@@ -1,0 +1,155 @@
+-- What a track promises: ascending times, finite values, the value that was pushed, the ends, and what `running` says. Assumes nothing.
+use Prim.Native.Nat.{ℕ, _-_, _<_}
+use mathlib.Core.Path.{_≡_, refl, sym, ap, _∙_, subst, subst⁻¹}
+use mathlib.Core.Bool.{Bool, true, false, not, cond, _||_}
+use mathlib.Core.List.{List, _++_}
+use native.Mathlib.Omega.{arith}
+use lib.Dec.{T, leb, ltb, eqb}
+use lib.ListN.{length, take, drop, getD}
+use lib.Seq.{take-at}
+use lib.Ieee.{Float, binary32, fits, lt, le, eq, ofBits}
+use Rattle.math.specs.Rounded.{_⊕_, zeroF, topF}
+use Rattle.math.specs.Range.{finiteOf, maxZeroOf}
+use Rattle.math.proofs.Choice.{by-test}
+use Rattle.math.proofs.Order.{not-lt-of-le}
+use Rattle.refusal.specs.declared.Refusal.{Refusal}
+use Rattle.refusal.specs.declared.Refusal.the-variants.{EasingNotSupplied, EasingParameter, RecordBreaksLimit, StepTooLong, StepLost, ElapsedTooLong, TrackLimit, TrackFull}
+use Rattle.easing.specs.declared.kinds.Easing.{Easing}
+use Rattle.easing.specs.Kinds.{suppliedOf}
+use Rattle.easing.specs.Params as params
+use Rattle.frames.specs.declared.frame.Keyframe.{Keyframe}
+use Rattle.frames.specs.declared.frame.Put.{Put}
+use Rattle.frames.specs.Limits.{framesOf, beforeAll, noFrame}
+use Rattle.frames.specs.Sampling.{cutOf, lastOf, atOf, firstOf, sampleOf}
+use Rattle.frames.specs.Pushing.{pushedOf, putOf}
+use Rattle.frames.proofs.Rising.{rising}
+use Rattle.frames.proofs.Pushed.{eq-le, pushed-in}
+use Rattle.frames.proofs.Samples.{sample-finite, sample-first, sample-last}
+use Rattle.frames.proofs.Owned.{sample-own}
+use Rattle.keyframe.specs.declared.types.Track.{Track}
+use Rattle.keyframe.specs.declared.types.Changed.{Changed}
+use Rattle.keyframe.specs.declared.types.Outcome.the-variants.{Done, Refused}
+use Rattle.keyframe.specs.declared.types.Updated.{Updated}
+use Rattle.keyframe.specs.declared.types.Stepped.the-variants as stepped
+use Rattle.keyframe.specs.declared.types.End.{End}
+use Rattle.keyframe.specs.declared.types.End.the-variants.{At, Never}
+use Rattle.keyframe.specs.Limits.{framesIn, baseOf, endOf, withinOf, Fine}
+use Rattle.keyframe.specs.Playback.{doneOf}
+use Rattle.keyframe.specs.Stepping.{movedOf, ran, lostOf, finalOf, passedOf, advanceOf, updateOf}
+use Rattle.keyframe.specs.Pushing.{storedOf, takesOf, placedOf, pushOf}
+use Rattle.keyframe.proofs.Records.{frames-fine}
+use Rattle.keyframe.proofs.Kept.{push-within}
+
+zero-below : lt zeroF zeroF ≡ false
+unfolding lt ofBits
+zero-below = refl
+
+-- a time that equals 0 is sampled as +0 is
+stored-same : (l : List Keyframe) (time : Float) → sampleOf l (storedOf time) ≡ sampleOf l time
+unfolding sampleOf
+stored-same l time = ap (λ (x : Float). cond (eqb (length l) 1) (firstOf l .value) (atOf l (cutOf x (lastOf l .time)))) (maxed (eq time zeroF) refl)
+  where
+    maxed : (b : Bool) → eq time zeroF ≡ b → maxZeroOf (cond b zeroF time) ≡ maxZeroOf time
+    maxed false e = refl
+    maxed true e = rw (not-lt-of-le time zeroF (eq-le time zeroF e), zero-below)
+
+-- where a push is done, a sample at its time equals the value that was pushed
+abbrev Sampled : Float → Float → Changed → Type 0
+Sampled time value r = r .outcome ≡ Done → Fine (r .track) → eq (sampleOf (framesIn (r .track)) time) value ≡ true
+
+never : {A : Type 0} (r : Refusal) → Refused r ≡ Done → A
+never r h =
+    let z : _≡_ {A = ℕ} 0 1 = cc in
+    absurd (omega (arith, z))
+
+placed-sampled : (t : Track) (k : Keyframe) → T (fits binary32 (k .value)) → Sampled (k .time) (k .value) (placedOf t (putOf (t .frames) (t .count) k))
+unfolding putOf placedOf
+placed-sampled t k F =
+    let l = pushedOf k (framesIn t) in
+    by-test (λ (p : Put). Sampled (k .time) (k .value) (placedOf t p)) (leb (length l) 64) (record { frames = l ++ drop (length l) (t .frames); count = length l; full = false }) (record { frames = t .frames; count = t .count; full = true })
+    (λ _ _ fine. go l (pushed-in k (framesIn t)) (take (length l) (l ++ drop (length l) (t .frames))) (take-at l (drop (length l) (t .frames)) (length l) refl) (frames-fine _ fine))
+    (λ _ h _. never TrackFull h)
+  where
+    go : (l : List Keyframe) → (p : ℕ) × ((p < length l) × (getD l p noFrame ≡ k)) → (m : List Keyframe) → m ≡ l → framesOf m ≡ true → eq (sampleOf m (k .time)) (k .value) ≡ true
+    go l (p, (h, e)) m s fine =
+        rw s
+        (subst (λ (x : Keyframe). eq (sampleOf l (x .time)) (x .value) ≡ true) e (sample-own l (rw s at fine) p h (subst⁻¹ (λ (x : Keyframe). T (fits binary32 (x .value))) e F)))
+
+pub push-sampled : (t : Track) → Fine t → (time value : Float) (e : Easing) → T (fits binary32 value) → pushOf t time value e .outcome ≡ Done
+    → eq (sampleOf (framesIn (pushOf t time value e .track)) time) value ≡ true
+unfolding pushOf
+push-sampled t fine time value e F h = subst (λ (x : Float). eq x value ≡ true) (stored-same (framesIn (pushOf t time value e .track)) time) (sampled h (push-within t fine time value e))
+  where
+    sampled : Sampled (storedOf time) value (pushOf t time value e)
+    sampled =
+        rw fine
+        (by-test (Sampled (storedOf time) value) (suppliedOf e) _ _
+        (λ _.
+        by-test (Sampled (storedOf time) value) (params.withinOf (params.paramsOf e)) _ _
+        (λ _. by-test (Sampled (storedOf time) value) (takesOf t (storedOf time) value) _ _ (λ _. placed-sampled t (record { time = storedOf time; value = value; easing = e }) F) (λ _ h _. never TrackLimit h))
+        (λ _ h _. never EasingParameter h))
+        (λ _ h _. never EasingNotSupplied h))
+
+module _ (t : Track) (fine : Fine t) where
+  pub ascending : (i j : ℕ) → i < j → j < length (framesIn t) → T (lt (getD (framesIn t) i noFrame .time) (getD (framesIn t) j noFrame .time))
+  ascending = rising beforeAll (framesIn t) (frames-fine t fine)
+
+  module _ (some : 0 < length (framesIn t)) where
+    pub sample-real : (secs : Float) → T (finiteOf (sampleOf (framesIn t) secs))
+    sample-real = sample-finite (framesIn t) (frames-fine t fine) some
+
+    pub at-first : (secs : Float) → T (le secs (firstOf (framesIn t) .time)) → sampleOf (framesIn t) secs ≡ firstOf (framesIn t) .value
+    at-first = sample-first (framesIn t) (frames-fine t fine) some
+
+    pub at-last : (secs : Float) → T (le (lastOf (framesIn t) .time) secs) → sampleOf (framesIn t) secs ≡ lastOf (framesIn t) .value
+    at-last = sample-last (framesIn t) (frames-fine t fine) some
+
+-- what an update tells of running
+abbrev Told : Updated → Type 0
+Told r = (b : Bool) → r .stepped ≡ stepped.Ran b → b ≡ not (doneOf (r .track))
+
+unlike : {A : Type 0} (b : Bool) (r : Refusal) → stepped.Refused r ≡ stepped.Ran b → A
+unlike b r h =
+    let z : _≡_ {A = ℕ} 0 1 = cc in
+    absurd (omega (arith, z))
+
+ran-told : (t : Track) (running : Bool) → running ≡ not (doneOf t) → Told (ran t running)
+ran-told t running e b h =
+    let s : running ≡ b = cc in
+    sym s ∙ e
+
+or-true : (b : Bool) → b || true ≡ true
+or-true true = refl
+or-true false = refl
+
+-- not done: two frames or more
+goes : (t : Track) → doneOf t ≡ false → (e : Float) (c : ℕ) → doneOf (movedOf t e c false) ≡ false
+goes t h e c = go (ltb (t .count) 2) h
+  where
+    go : (b : Bool) → b || t .complete ≡ false → b || false ≡ false
+    go true k = k
+    go false k = refl
+
+advance-told : (t : Track) → doneOf t ≡ false → (end : End) (sum : Float) → Told (advanceOf end t sum)
+unfolding advanceOf
+advance-told t h (At total) sum =
+    by-test Told (le total sum) _ _ (λ _. ran-told (movedOf t total (finalOf (t .looping) (passedOf t sum)) true) false (sym (ap not (or-true (ltb (t .count) 2)))))
+    (λ _. ran-told (movedOf t sum (passedOf t sum) false) true (sym (ap not (goes t h sum (passedOf t sum)))))
+advance-told t h Never sum =
+    by-test Told (lt topF sum) _ _ (λ _ b k. unlike b ElapsedTooLong k)
+    (λ _. ran-told (movedOf t sum (passedOf t sum) false) true (sym (ap not (goes t h sum (passedOf t sum)))))
+
+update-told : (t : Track) (dt : Float) → Told (updateOf t dt)
+unfolding updateOf
+update-told t dt =
+    by-test Told (withinOf t) _ _
+    (λ _.
+    by-test Told (lt topF dt) _ _ (λ _ b k. unlike b StepTooLong k)
+    (λ _.
+    by-test Told (doneOf t) _ _ (λ h. ran-told t false (sym (ap not h)))
+    (λ h. by-test Told (lostOf (t .elapsed) (maxZeroOf dt)) _ _ (λ _ b k. unlike b StepLost k) (λ _. advance-told t h (endOf (t .looping) (baseOf t)) (t .elapsed ⊕ maxZeroOf dt)))))
+    (λ _ b k. unlike b RecordBreaksLimit k)
+
+-- `running` after an update: not complete, and two frames or more
+pub running : (t : Track) (dt : Float) (b : Bool) → updateOf t dt .stepped ≡ stepped.Ran b → b ≡ not (doneOf (updateOf t dt .track))
+running t dt b h = update-told t dt b h

@@ -1,0 +1,35 @@
+-- `seek_to` meets its contract, refusal by refusal. Assumes nothing.
+use borrow.Author.Needs.{needs}
+use mathlib.Core.Path.{_≡_, sym, _∙_}
+use mathlib.Core.Bool.{true}
+use Rattle.keyframe.specs.Limits.{withinOf}
+use Rattle.keyframe.proofs.Records.{few-frames}
+use Rattle.keyframe.proofs.Changes.{failed, passed}
+use Rattle.keyframe.proofs.Moves.{seek-broken, seek-nan, seek-done}
+use Rattle.keyframe.proofs.types.Track.seek_to.Statement.{statement}
+use Rattle.keyframe.proofs.types.Track.seek_to.Tie as tie
+
+within : (c : tie.Else1) → withinOf (c .before .before .args .self) ≡ true
+within c = passed _ _ (c .before .is-within-limits .ensures) (c .if1 .left)
+
+pub seek-to-spec : {M : Type 1} → statement M
+seek-to-spec =
+    tie.close
+    (tie.spec
+    (λ c κs. search needs)
+    (λ c κs. search needs)
+    (λ c.
+    let b = c .before .before in
+    c .refuse .ensures ∙ seek-broken (b .before .args .self) (b .before .args .progress .0) (failed _ _ (b .is-within-limits .ensures) (c .before .if1 .taken)))
+    (λ c κs. search needs)
+    (λ c κs. search needs)
+    (λ c.
+    let b = c .before .before in
+    let a = b .before .before .before .args in
+    c .refuse2 .ensures ∙ seek-nan (a .self) (a .progress .0) (within (b .before)) (sym (b .is-nan .ensures) ∙ c .before .if2 .taken))
+    (λ c κs. search needs)
+    (λ c κs. few-frames _ (within (c .before .before .before)))
+    (λ c.
+    let b = c .before .before .before in
+    let a = b .before .before .before .args in
+    rw (c .sought .ensures, c .before .clamp01 .ensures) (seek-done (a .self) (a .progress .0) (within (b .before)) (sym (b .is-nan .ensures) ∙ c .before .before .if2 .left))))

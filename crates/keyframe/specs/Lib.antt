@@ -1,0 +1,7 @@
+pub mod Refusing
+pub mod Limits
+pub mod Pushing
+pub mod Playback
+pub mod Sampling
+pub mod Batch
+pub mod Stepping

@@ -1,0 +1,138 @@
+// Frames pushed into a track, and a change of its mode.
+ghost use mathlib.Core.Path.{_≡_};
+ghost use Prim.Native.Nat.{_≤_};
+ghost use Rattle.easing.specs.declared.kinds.Easing.the-variants.{Linear};
+ghost use Rattle.frames.specs.Pushing.{putOf};
+ghost use Rattle.keyframe.specs.Pushing.{newTrack, storedOf, laterOf, takesOf, placedOf, pushOf, loopingOf};
+use crate::handed::refuse;
+use crate::limits::last_time;
+use crate::limits::mode_fits;
+use crate::types::Changed;
+use crate::types::Outcome;
+use crate::types::Track;
+use easing::Easing;
+use frames::Keyframe;
+use loop_mode::Loop;
+use refusal::Refusal;
+
+fn stored(time: f32) -> f32
+    ensures { λ r. ⌜ r ≡ storedOf time ⌝ }
+{
+    if time == 0.0 { 0.0 } else { time }
+}
+
+fn later(base: f32, time: f32) -> f32
+    ensures { λ r. ⌜ r ≡ laterOf base time ⌝ }
+{
+    if time < base { base } else { time }
+}
+
+// Whether a frame with this time and value, and the total with it in, are within their limits.
+fn takes(track: Track, time: f32, value: f32) -> bool
+    requires { ⌜ track .count ≤ 64 ⌝ }
+    ensures { λ r. ⌜ r ≡ takesOf track time value ⌝ }
+{
+    let looping = track.looping;
+    let base = later(last_time(track), time);
+    frames::is_time(time) & math::is_value(value) & mode_fits(looping, base)
+}
+
+fn place(track: Track, k: Keyframe) -> Changed
+    requires { ⌜ track .count ≤ 64 ⌝ }
+    ensures { λ r. ⌜ r ≡ placedOf track (putOf (track .frames) (track .count) k) ⌝ }
+{
+    let old = track.frames;
+    let put = frames::put(old, track.count, k);
+    if put.full {
+        return refuse(track, Refusal::TrackFull);
+    }
+    let frames = put.frames;
+    let mut u = track;
+    u.frames = frames;
+    u.count = put.count;
+    u.complete = false;
+    Changed {
+        track: u,
+        outcome: Outcome::Done,
+    }
+}
+
+impl Track {
+    // No frames, Once.
+    pub fn new() -> Track
+        ensures { λ r. ⌜ r ≡ newTrack ⌝ }
+    {
+        let blank = Keyframe {
+            time: 0.0,
+            value: 0.0,
+            easing: Easing::Linear,
+        };
+        let frames = [blank; 64];
+        Track {
+            frames,
+            count: 0,
+            elapsed: 0.0,
+            looping: Loop::Once,
+            loop_count: 0,
+            complete: false,
+        }
+    }
+
+    // A Linear frame. Refused as `push_eased` refuses.
+    pub fn push(self, time: f32, value: f32) -> Changed
+        ensures { λ r. ⌜ r ≡ pushOf self time value Linear ⌝ }
+    {
+        self.push_eased(time, value, Easing::Linear)
+    }
+
+    // A frame at the time of another replaces it. Refused: 4; 2 and 3 for the easing; 11 for the
+    // time, the value or the total; 9 where the track is full.
+    pub fn push_eased(self, time: f32, value: f32, easing: Easing) -> Changed
+        ensures { λ r. ⌜ r ≡ pushOf self time value easing ⌝ }
+    {
+        if !self.is_within_limits() {
+            return refuse(self, Refusal::RecordBreaksLimit);
+        }
+        if !easing.is_supplied() {
+            return refuse(self, Refusal::EasingNotSupplied);
+        }
+        if !easing.fits_record() {
+            return refuse(self, Refusal::EasingParameter);
+        }
+        let t = stored(time);
+        if !takes(self, t, value) {
+            return refuse(self, Refusal::TrackLimit);
+        }
+        let k = Keyframe {
+            time: t,
+            value,
+            easing,
+        };
+        place(self, k)
+    }
+
+    // Refused: 4; 11 where the mode breaks the pass or the total limit.
+    pub fn looping(self, mode: Loop) -> Changed
+        ensures { λ r. ⌜ r ≡ loopingOf self mode ⌝ }
+    {
+        if !self.is_within_limits() {
+            return refuse(self, Refusal::RecordBreaksLimit);
+        }
+        if !mode_fits(mode, last_time(self)) {
+            return refuse(self, Refusal::TrackLimit);
+        }
+        let frames = self.frames;
+        let track = Track {
+            frames,
+            count: self.count,
+            elapsed: self.elapsed,
+            looping: mode,
+            loop_count: self.loop_count,
+            complete: false,
+        };
+        Changed {
+            track,
+            outcome: Outcome::Done,
+        }
+    }
+}

@@ -1,0 +1,48 @@
+// The track, and what its calls answer.
+use frames::Keyframe;
+use loop_mode::Loop;
+use refusal::Refusal;
+
+// The first `count` frames are the track's; the places behind them may hold anything. elapsed is in
+// seconds.
+pub struct Track {
+    pub frames: [Keyframe; 64],
+    pub count: usize,
+    pub elapsed: f32,
+    pub looping: Loop,
+    pub loop_count: u32,
+    pub complete: bool,
+}
+
+// Where playback ends: at a total in seconds, or never.
+pub enum End {
+    At(f32),
+    Never,
+}
+
+pub enum Outcome {
+    Done,
+    Refused(Refusal),
+}
+
+// On a refusal the track is the one that came in, here and in Updated.
+pub struct Changed {
+    pub track: Track,
+    pub outcome: Outcome,
+}
+
+// running: whether the track is not complete, and has two frames or more.
+pub enum Stepped {
+    Ran { running: bool },
+    Refused(Refusal),
+}
+
+pub struct Updated {
+    pub track: Track,
+    pub stepped: Stepped,
+}
+
+pub enum Completion {
+    Complete(bool),
+    Refused(Refusal),
+}
