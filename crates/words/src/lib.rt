@@ -12,6 +12,7 @@ pub use modes::LoopRead;
 pub use modes::flag_word;
 pub use modes::loop_of;
 pub use modes::loop_words;
+pub use modes::state_word;
 pub use tweens::LaxTween;
 pub use tweens::TweenRead;
 pub use tweens::tween_of;
