@@ -1,2 +1,3 @@
-mod Rest
 mod Plain
+pub mod ReadBack
+mod Rest
