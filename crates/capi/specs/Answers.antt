@@ -1,7 +1,6 @@
 -- The answers of the library's calls as words. Where the number is not 0 the rest is 0, but for a tween, which is then the one that came.
 use Prim.Native.Nat.{ℕ}
 use mathlib.Core.Bool.{Bool}
-use lib.Ieee.{Float}
 use Rattle.math.specs.Rounded.{zeroF}
 use Rattle.refusal.specs.Number.{numberOf}
 use Rattle.units.specs.declared.InSeconds.{InSeconds}
@@ -18,7 +17,6 @@ use Rattle.tween.specs.declared.answers.Changed.{Changed}
 use Rattle.tween.specs.declared.answers.Changed.the-variants as changed
 use Rattle.tween.specs.declared.answers.Updated.{Updated}
 use Rattle.tween.specs.declared.answers.Updated.the-variants as updated
-use Rattle.words.specs.declared.kinds.LaxEasing.{LaxEasing}
 use Rattle.words.specs.declared.tweens.LaxTween.{LaxTween}
 use Rattle.words.specs.Modes.{stateWord, flagWord}
 use Rattle.words.specs.Tweens.{tweenWords}

@@ -1,5 +1,4 @@
 -- What the exported calls of a tween answer: the tween read from its words, the library's definition, the answer's words.
-use Prim.Native.Nat.{ℕ}
 use lib.Ieee.{Float}
 use Rattle.tween.specs.declared.record.Tween.{Tween}
 use Rattle.tween.specs.Calls.{progressOf, easedProgressOf, valueOf, snapshotOf, playbackDurationOf, resetOf, seekOf, reverseOf, pauseOf, resumeOf}

@@ -1,5 +1,5 @@
 -- What was written as words is read back as it was. Assumes nothing.
-use mathlib.Core.Path.{_≡_, refl, ap}
+use mathlib.Core.Path.{_≡_, refl}
 use mathlib.Core.Bool.{Bool, true, false, not}
 use lib.Dec.{eqb}
 use Rattle.easing.specs.declared.kinds.Easing.{Easing}

@@ -1,10 +1,7 @@
 -- A tween as words, for the C interface.
 use mathlib.Core.Bool.{not}
 use lib.Dec.{eqb}
-use Rattle.easing.specs.declared.kinds.Easing.{Easing}
-use Rattle.loop_mode.specs.declared.Loop.{Loop}
 use Rattle.tween.specs.declared.record.Tween.{Tween}
-use Rattle.tween.specs.declared.record.TweenState.{TweenState}
 use Rattle.words.specs.declared.kinds.EasingRead.{EasingRead}
 use Rattle.words.specs.declared.kinds.EasingRead.the-variants as kind
 use Rattle.words.specs.declared.modes.LoopRead.{LoopRead}
