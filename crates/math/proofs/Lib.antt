@@ -1,6 +1,8 @@
+pub mod Beneath
 pub mod Bounded
 pub mod Ceiling
 pub mod Choice
+pub mod Equals
 mod Examples
 pub mod Fitting
 mod Form

@@ -1,4 +1,4 @@
--- Laws of the folds: none is made where none is due, one is the first of n, and each counts by one. Assumes nothing.
+-- Laws of the folds: none is made where none is due, one is the first of n, and loop_count grows by one at most. Assumes nothing.
 use Prim.Native.Nat.{ℕ, zero, suc, _+_, _-_, _≤_, _<_}
 use native.Mathlib.Nat.{le-refl}
 use native.Mathlib.Numerals.{sub-one}
@@ -38,20 +38,12 @@ pub folds-next : (n : ℕ) (l : Loop) (d : Float) (p q : Folding) (b : Bool) →
     → foldsOf (n - 1) (due d q) l d q ≡ foldsOf n (due d p) l d p
 folds-next n l d p q b e h k r = rw (r, passes b (due d p) e h) (sym (folds-first n l d p k))
 
-pub fold-folds : (l : Loop) (d : Float) (p : Folding) → foldOnce l d p .folds ≡ p .folds + 1
+pub count-grows : (l : Loop) (d : Float) (p : Folding) → foldOnce l d p .«loop_count» ≤ p .«loop_count» + 1
 unfolding foldOnce
-fold-folds Once d p = refl
-fold-folds (Times n) d p = by-test (λ (q : Folding). q .folds ≡ p .folds + 1) (leb (passesOf n) (p .«loop_count» + 1)) _ _ (λ _. refl) (λ _. refl)
-fold-folds (PingPongTimes n) d p = by-test (λ (q : Folding). q .folds ≡ p .folds + 1) (leb (passesOf n) (p .«loop_count» + 1)) _ _ (λ _. refl) (λ _. refl)
-fold-folds Forever d p = refl
-fold-folds PingPong d p = refl
-
-pub fold-count : (l : Loop) (d : Float) (p : Folding) → foldOnce l d p .«loop_count» ≤ p .«loop_count» + 1
-unfolding foldOnce
-fold-count Once d p = omega arith
-fold-count (Times n) d p =
+count-grows Once d p = omega arith
+count-grows (Times n) d p =
     by-test (λ (q : Folding). q .«loop_count» ≤ p .«loop_count» + 1) (leb (passesOf n) (p .«loop_count» + 1)) _ _ (λ _. le-refl _) (λ _. le-refl _)
-fold-count (PingPongTimes n) d p =
+count-grows (PingPongTimes n) d p =
     by-test (λ (q : Folding). q .«loop_count» ≤ p .«loop_count» + 1) (leb (passesOf n) (p .«loop_count» + 1)) _ _ (λ e. leb-true _ _ e) (λ _. le-refl _)
-fold-count Forever d p = omega arith
-fold-count PingPong d p = omega arith
+count-grows Forever d p = omega arith
+count-grows PingPong d p = omega arith

@@ -1,10 +1,13 @@
 -- Document 01, "Records and their limits" and "Refusal numbers": what holds of every answer of a call that hands a tween back.
 use Prim.Native.Nat.{ℕ, zero, suc, _≤_}
 use mathlib.Core.Path.{_≡_}
-use mathlib.Core.Bool.{Bool, true, _&&_}
+use mathlib.Core.Bool.{Bool, true, false, _&&_}
 use lib.Ieee.{Float}
+use Rattle.math.specs.Rounded.{_⊕_, _⊖_, _⊗_}
 use Rattle.loop_mode.specs.declared.Loop.{Loop}
 use Rattle.tween.specs.declared.record.Tween.{Tween}
+use Rattle.tween.specs.declared.record.TweenState.{TweenState}
+use Rattle.tween.specs.declared.record.TweenState.the-variants.{Idle, Running, Paused, Completed}
 use Rattle.tween.specs.declared.answers.Changed.{Changed}
 use Rattle.tween.specs.declared.answers.Changed.the-variants as changed
 use Rattle.tween.specs.declared.answers.Updated.{Updated}
@@ -32,6 +35,19 @@ HandsBack t (changed.Refused u r) = u ≡ t
 abbrev pub UpdateHandsBack : Tween → Updated → Type 0
 UpdateHandsBack t (updated.Ran u k r) = Unit {0}
 UpdateHandsBack t (updated.Refused u r) = u ≡ t
+
+abbrev pub isCompleted : TweenState → Bool
+isCompleted Idle = false
+isCompleted Running = false
+isCompleted Paused = false
+isCompleted Completed = true
+
+-- what elapsed comes to by a step x, if the tween runs on: "Running adds step times scale"; while Idle, "the excess times scale is added to elapsed"
+abbrev pub sumBy : Float → Tween → TweenState → Float
+sumBy x t Idle = t .elapsed ⊕ (t .«delay_elapsed» ⊕ x ⊖ t .delay) ⊗ t .«time_scale»
+sumBy x t Running = t .elapsed ⊕ x ⊗ t .«time_scale»
+sumBy x t Paused = t .elapsed
+sumBy x t Completed = t .elapsed
 
 -- n folds, due or not
 unfoldable pub foldTimes : ℕ → Loop → Float → Folding → Folding

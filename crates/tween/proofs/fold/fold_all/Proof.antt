@@ -5,7 +5,8 @@ use mathlib.Core.Path.{_≡_, refl, ap, _∙_}
 use borrow.Author.Needs.{needs}
 use Rattle.tween.specs.declared.fold.Folding.{Folding}
 use Rattle.tween.specs.Folds.{due, foldsOf}
-use Rattle.tween.proofs.Stepping.{folds-none, folds-done, folds-next, fold-folds, fold-count}
+use Rattle.tween.proofs.Stepping.{folds-none, folds-done, folds-next, count-grows}
+use Rattle.tween.proofs.Ways.{fold-counts}
 use Rattle.tween.proofs.fold.fold_all.Statement.{statement}
 use Rattle.tween.proofs.fold.fold_all.Tie as tie
 
@@ -24,8 +25,8 @@ loop-again c = (
   folds-next _ _ _ _ _ _ (c .before .before .is-due .ensures) (c .before .if1 .left) (c .before .before .before .loop-test .taken) (c .fold-once .ensures)
       ∙ c .before .before .before .before .loop .inv .0,
   omega arith,
-  omega (arith, ap (λ (p : Folding). p .folds) (c .fold-once .ensures) ∙ fold-folds _ _ _),
-  omega (arith, ap (λ (p : Folding). p .«loop_count») (c .fold-once .ensures), fold-count (c .before .before .before .before .before .args .looping) (c .before .before .before .before .before .args .duration) (c .before .before .before .before .loop .p)),
+  omega (arith, ap (λ (p : Folding). p .folds) (c .fold-once .ensures) ∙ fold-counts _ _ _),
+  omega (arith, ap (λ (p : Folding). p .«loop_count») (c .fold-once .ensures), count-grows (c .before .before .before .before .before .args .looping) (c .before .before .before .before .before .args .duration) (c .before .before .before .before .loop .p)),
 )
 
 returns-last : tie.Need-returns-2 Inv-loop μ-loop

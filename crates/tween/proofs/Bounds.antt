@@ -1,0 +1,117 @@
+-- The limits on a tween's numbers, one by one, and how they make up a tween within its limits. Assumes nothing.
+use mathlib.Core.Path.{refl, ap, subst}
+use mathlib.Core.Bool.{Bool, _&&_, and-comm}
+use lib.IntN.{pos}
+use lib.Dec.{T}
+use lib.Ieee.{Float, binary32, round, le, ofInt, ofBits}
+use lib.Ieee.Fits.{and-i, and-l, and-r}
+use Rattle.math.specs.Rounded.{f32, zeroF, topF}
+use Rattle.math.specs.Range.{valueOf, betweenOf, AtMost}
+use Rattle.math.specs.Whole.{Is}
+use Rattle.math.proofs.Order.{le-chain}
+use Rattle.math.proofs.Upward.{Up}
+use Rattle.math.proofs.Sizes.{up-to, size-at-most}
+use Rattle.loop_mode.specs.Passes.{withinOf as modeWithin}
+use Rattle.easing.specs.Apply.{fitsRecordOf}
+use Rattle.tween.specs.declared.record.Tween.{Tween}
+use Rattle.tween.specs.declared.record.TweenSnapshot.{TweenSnapshot}
+use Rattle.tween.specs.Parts.{withEnds, put}
+use Rattle.tween.specs.Limits.{settingsWithin, idleBelow, clockWithin, countWithin, withinOf}
+
+-- 33,554,432, the limit of delay_elapsed
+abbrev pub longest : Float
+longest = f32 0x4c00_0000
+
+pub longest-is : Is longest 33554432
+unfolding ofBits
+longest-is = (refl, refl)
+
+pub longest-held : Is (ofInt binary32 (pos 33554432)) 33554432
+unfolding ofInt round
+longest-held = (refl, refl)
+
+pub top-is : Is topF 16777216
+unfolding ofBits
+top-is = (refl, refl)
+
+-- 1,024, the limit of the scale
+fastest-is : Is (f32 0x4480_0000) 1024
+unfolding ofBits
+fastest-is = (refl, refl)
+
+pub record Limits (t : Tween) : Type 0 where
+  pub settings : T (settingsWithin t)
+  pub start-most : AtMost 16777216 (t .start)
+  pub end-most : AtMost 16777216 (t .end)
+  pub duration-up : Up (t .duration)
+  pub duration-most : AtMost 16777216 (t .duration)
+  pub delay-up : Up (t .delay)
+  pub delay-to : T (le (t .delay) topF)
+  pub scale-up : Up (t .«time_scale»)
+  pub scale-most : AtMost 1024 (t .«time_scale»)
+  pub easing-fits : T (fitsRecordOf (t .easing))
+  pub elapsed-up : Up (t .elapsed)
+  pub elapsed-to : T (le (t .elapsed) (t .duration))
+  pub elapsed-most : AtMost 16777216 (t .elapsed)
+  pub waited-up : Up (t .«delay_elapsed»)
+  pub waited-to : T (le (t .«delay_elapsed») longest)
+  pub idle : T (idleBelow (t .state) (t .«delay_elapsed») (t .delay))
+  pub count : T (countWithin t)
+
+pub limits : (t : Tween) → T (withinOf t) → Limits t
+unfolding withinOf
+limits t h = go (search (and-l, and-r)) (search (and-l, and-r))
+  where
+    go : T (settingsWithin t) → T (clockWithin t) → Limits t
+    go a b = unfold settingsWithin clockWithin in
+        record {
+          settings = a;
+          start-most = size-at-most 16777216 (t .start) topF top-is (search (and-l, and-r) depth 8);
+          end-most = size-at-most 16777216 (t .end) topF top-is (search (and-l, and-r) depth 8);
+          duration-up = search (and-l, and-r);
+          duration-most = up-to 16777216 (t .duration) topF top-is (search (and-l, and-r) depth 7) (search (and-l, and-r) depth 7);
+          delay-up = search (and-l, and-r);
+          delay-to = search (and-l, and-r);
+          scale-up = search (and-l, and-r);
+          scale-most = up-to 1024 (t .«time_scale») (f32 0x4480_0000) fastest-is (search (and-l, and-r)) (search (and-l, and-r));
+          easing-fits = search (and-l, and-r);
+          elapsed-up = search (and-l, and-r);
+          elapsed-to = search (and-l, and-r);
+          elapsed-most = up-to 16777216 (t .elapsed) topF top-is (search (and-l, and-r)) (le-chain (t .elapsed) (t .duration) topF (search (and-l, and-r)) (search (and-l, and-r) depth 7));
+          waited-up = search (and-l, and-r);
+          waited-to = search (and-l, and-r);
+          idle = search (and-l, and-r);
+          count = and-r (settingsWithin t && clockWithin t) (countWithin t) h;
+        }
+
+-- and back: what moves is the clock alone
+pub settings-stay : (now : TweenSnapshot) (t : Tween) → T (settingsWithin t) → T (settingsWithin (put now t))
+unfolding settingsWithin
+settings-stay now t h = h
+
+pub settings-turned : (now : TweenSnapshot) (t : Tween) → T (settingsWithin t) → T (settingsWithin (withEnds (t .end) (t .start) now t))
+unfolding settingsWithin
+settings-turned now t h =
+    subst T
+    (ap (λ (v : Bool). v && betweenOf zeroF topF (t .duration) && betweenOf zeroF topF (t .delay) && betweenOf zeroF (f32 0x4480_0000) (t .«time_scale») && modeWithin (t .looping) && fitsRecordOf (t .easing))
+    (and-comm (valueOf (t .start)) (valueOf (t .end)))) h
+
+pub between : (lo hi x : Float) → T (le lo x) → T (le x hi) → T (betweenOf lo hi x)
+between lo hi x h k = and-i (le lo x) (le x hi) h k
+
+pub clock : (t : Tween) → T (betweenOf zeroF (t .duration) (t .elapsed)) → T (betweenOf zeroF longest (t .«delay_elapsed»)) → T (idleBelow (t .state) (t .«delay_elapsed») (t .delay)) → T (clockWithin t)
+unfolding clockWithin
+clock t e w i =
+    and-i (betweenOf zeroF (t .duration) (t .elapsed) && betweenOf zeroF longest (t .«delay_elapsed»)) (idleBelow (t .state) (t .«delay_elapsed») (t .delay))
+    (and-i (betweenOf zeroF (t .duration) (t .elapsed)) (betweenOf zeroF longest (t .«delay_elapsed»)) e w) i
+
+pub within : (t : Tween) → T (settingsWithin t) → T (clockWithin t) → T (countWithin t) → T (withinOf t)
+unfolding withinOf
+within t s c n = and-i (settingsWithin t && clockWithin t) (countWithin t) (and-i (settingsWithin t) (clockWithin t) s c) n
+
+module _ (t : Tween) (i : Limits t) where
+  pub waited : T (betweenOf zeroF longest (t .«delay_elapsed»))
+  waited = between zeroF longest (t .«delay_elapsed») (i .waited-up) (i .waited-to)
+
+  pub elapsed : T (betweenOf zeroF (t .duration) (t .elapsed))
+  elapsed = between zeroF (t .duration) (t .elapsed) (i .elapsed-up) (i .elapsed-to)

@@ -1,0 +1,108 @@
+-- What an update reports: at most 4,096 folds, 7 exactly where they are not enough, and `running` exactly where the tween is not completed. Assumes nothing.
+use Prim.Native.Nat.{ℕ, zero, suc, _+_, _≤_}
+use native.Mathlib.Nat.{le-refl}
+use native.Mathlib.Omega.{arith}
+use mathlib.Core.Path.{_≡_, refl, sym, ap, _∙_, subst, subst⁻¹}
+use mathlib.Core.Logic.{_↔_}
+use mathlib.Core.Bool.{Bool, true, false, not, cond, true≢false}
+use lib.Ieee.{Float, eq}
+use Rattle.math.specs.Rounded.{zeroF}
+use Rattle.math.specs.Range.{maxZeroOf}
+use Rattle.refusal.specs.declared.Refusal.the-variants.{TooManyFolds}
+use Rattle.refusal.specs.Number.{numberOf}
+use Rattle.loop_mode.specs.declared.Loop.{Loop}
+use Rattle.tween.specs.declared.record.Tween.{Tween}
+use Rattle.tween.specs.declared.record.TweenState.{TweenState}
+use Rattle.tween.specs.declared.record.TweenState.the-variants.{Running, Completed}
+use Rattle.tween.specs.declared.answers.Updated.{Updated}
+use Rattle.tween.specs.declared.answers.Updated.the-variants.{Ran, Refused}
+use Rattle.tween.specs.declared.fold.Folding.{Folding}
+use Rattle.tween.specs.Folds.{foldOnce, due, foldsOf}
+use Rattle.tween.specs.Update.{beginAt, advanced, updateOf}
+use Rattle.tween.specs.Promises.{isCompleted, sumBy, foldTimes, TooFew}
+use Rattle.tween.proofs.Ways.{fold-counts, foldedFrom, by-advanced, by-update}
+
+-- n folds at most add n at most
+folds-few : (n : ℕ) (b : Bool) (l : Loop) (d : Float) (p : Folding) → foldsOf n b l d p .folds ≤ p .folds + n
+unfolding foldsOf
+folds-few zero b l d p = omega arith
+folds-few (suc n) false l d p = omega arith
+folds-few (suc n) true l d p =
+    let q = foldOnce l d p in
+    omega (arith, fold-counts l d p, folds-few n (due d q) l d q)
+
+abbrev Few : Updated → Type 0
+Few (Ran u k r) = k ≤ 4096
+Few (Refused u r) = Unit {0}
+
+few : (t : Tween) (x : Float) → Few (updateOf t x)
+few t x =
+    by-update Few t tt tt tt (λ _. omega arith) (λ _. omega arith) (λ w. omega arith) x
+    (λ w.
+    let p = beginAt t (sumBy (maxZeroOf x) t (t .state)) in
+    by-advanced Few t w (sumBy (maxZeroOf x) t (t .state)) (λ _. omega arith) (λ _ _. tt) (λ _. folds-few 4096 (due (t .duration) p) (t .looping) (t .duration) p))
+
+pub update-folds : (t u : Tween) (x : Float) (k : ℕ) (r : Bool) → updateOf t x ≡ Ran u k r → k ≤ 4096
+update-folds t u x k r e = subst Few e (few t x)
+
+-- running
+abbrev Tells : Updated → Type 0
+Tells (Ran u k r) = r ≡ not (isCompleted (u .state))
+Tells (Refused u r) = Unit {0}
+
+ran-tells : (c : Bool) → not c ≡ not (isCompleted (cond c Completed Running))
+ran-tells true = refl
+ran-tells false = refl
+
+tells : (t : Tween) (x : Float) → Tells (updateOf t x)
+tells t x =
+    by-update Tells t tt tt tt (λ h. sym (ap (λ (s : TweenState). not (isCompleted s)) h)) (λ h. sym (ap (λ (s : TweenState). not (isCompleted s)) h)) (λ w. refl) x
+    (λ w. by-advanced Tells t w (sumBy (maxZeroOf x) t (t .state)) (λ _. refl) (λ _ _. tt) (λ _. ran-tells (foldedFrom t (sumBy (maxZeroOf x) t (t .state)) .completed)))
+
+pub update-running : (t u : Tween) (x : Float) (k : ℕ) (r : Bool) → updateOf t x ≡ Ran u k r → r ≡ not (isCompleted (u .state))
+update-running t u x k r e = subst Tells e (tells t x)
+
+-- 7. Where a fold is due after n folds at most, one was due after each number up to n
+module _ (l : Loop) (d : Float) where
+  due-before : (n : ℕ) (b : Bool) (p : Folding) → due d p ≡ b → due d (foldsOf n b l d p) ≡ true → (m : ℕ) → m ≤ n → due d (foldTimes m l d p) ≡ true
+  unfolding foldsOf foldTimes
+  due-before zero b p g h zero k = h
+  due-before zero b p g h (suc m) k = absurd (omega arith)
+  due-before (suc n) false p g h m k = absurd (true≢false (sym h ∙ g))
+  due-before (suc n) true p g h zero k = g
+  due-before (suc n) true p g h (suc m) k = due-before n (due d (foldOnce l d p)) (foldOnce l d p) refl h m (omega arith)
+
+  -- and where one is, that many are made
+  all-made : (n : ℕ) (b : Bool) (p : Folding) → due d p ≡ b → ((m : ℕ) → m ≤ n → due d (foldTimes m l d p) ≡ true) → foldsOf n b l d p ≡ foldTimes n l d p
+  unfolding foldsOf foldTimes
+  all-made zero b p g h = refl
+  all-made (suc n) false p g h = absurd (true≢false (sym (h 0 (omega arith)) ∙ g))
+  all-made (suc n) true p g h = all-made n (due d (foldOnce l d p)) (foldOnce l d p) refl (λ m k. h (suc m) (omega arith))
+
+abbrev Seven : Updated → Type 0
+Seven (Ran u k r) = ⊥
+Seven (Refused u r) = numberOf r ≡ 7
+
+module _ (t : Tween) where
+  seven-needs : (w e : Float) → Seven (advanced t w e) → (eq (t .duration) zeroF ≡ false) × TooFew t e
+  seven-needs w e =
+      let p = beginAt t e in
+      by-advanced (λ (a : Updated). Seven a → (eq (t .duration) zeroF ≡ false) × TooFew t e) t w e (λ _ h. absurd h)
+      (λ z g _. (z, due-before (t .looping) (t .duration) 4096 (due (t .duration) p) p refl g)) (λ _ h. absurd h)
+
+  seven-due : (w e : Float) → eq (t .duration) zeroF ≡ false → TooFew t e → advanced t w e ≡ Refused t TooManyFolds
+  seven-due w e z few =
+      let p = beginAt t e in
+      by-advanced (λ (a : Updated). a ≡ Refused t TooManyFolds) t w e (λ k. absurd (true≢false (sym k ∙ z))) (λ _ _. refl)
+      (λ g. absurd (true≢false (sym (few 4096 (le-refl 4096)) ∙ ap (due (t .duration)) (sym (all-made (t .looping) (t .duration) 4096 (due (t .duration) p) p refl few)) ∙ g)))
+
+  -- for a duration that is not 0
+  pub seven-exactly : (w e : Float) → eq (t .duration) zeroF ≡ false → (advanced t w e ≡ Refused t TooManyFolds) ↔ TooFew t e
+  seven-exactly w e z = (λ h. seven-needs w e (subst⁻¹ Seven h refl) .1, seven-due w e z)
+
+  -- an update gives 7 there alone
+  pub update-seven : (u : Tween) (x : Float) → updateOf t x ≡ Refused u TooManyFolds → (eq (t .duration) zeroF ≡ false) × TooFew t (sumBy (maxZeroOf x) t (t .state))
+  update-seven u x h =
+      let e = sumBy (maxZeroOf x) t (t .state) in
+      by-update (λ (a : Updated). Seven a → (eq (t .duration) zeroF ≡ false) × TooFew t e) t (λ k. absurd (omega arith)) (λ k. absurd (omega arith)) (λ k. absurd (omega arith))
+      (λ _ k. absurd k) (λ _ k. absurd k) (λ _ k. absurd k) x (λ w. seven-needs w e) (subst⁻¹ Seven h refl)
