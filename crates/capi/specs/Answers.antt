@@ -1,6 +1,7 @@
 -- The answers of the library's calls as words. Where the number is not 0 the rest is 0, but for a tween, which is then the one that came.
 use Prim.Native.Nat.{ℕ}
-use mathlib.Core.Bool.{Bool}
+use mathlib.Core.Bool.{Bool, cond}
+use lib.Dec.{eqb}
 use Rattle.math.specs.Rounded.{zeroF}
 use Rattle.refusal.specs.Number.{numberOf}
 use Rattle.units.specs.declared.InSeconds.{InSeconds}
@@ -17,6 +18,9 @@ use Rattle.tween.specs.declared.answers.Changed.{Changed}
 use Rattle.tween.specs.declared.answers.Changed.the-variants as changed
 use Rattle.tween.specs.declared.answers.Updated.{Updated}
 use Rattle.tween.specs.declared.answers.Updated.the-variants as updated
+use Rattle.steps.specs.declared.run.Outcome.{Outcome}
+use Rattle.steps.specs.declared.run.Outcome.the-variants as outcome
+use Rattle.steps.specs.declared.run.Run.{Run}
 use Rattle.words.specs.declared.tweens.LaxTween.{LaxTween}
 use Rattle.words.specs.Modes.{stateWord, flagWord}
 use Rattle.words.specs.Tweens.{tweenWords}
@@ -25,6 +29,7 @@ use Rattle.capi.specs.declared.answers.LaxFlag.{LaxFlag}
 use Rattle.capi.specs.declared.answers.LaxSnapshot.{LaxSnapshot}
 use Rattle.capi.specs.declared.answers.LaxChanged.{LaxChanged}
 use Rattle.capi.specs.declared.answers.LaxUpdated.{LaxUpdated}
+use Rattle.capi.specs.declared.answers.LaxRun.{LaxRun}
 
 abbrev pub noValue : ℕ → LaxValue
 noValue n = record { number = n; value = zeroF }
@@ -80,3 +85,11 @@ notUpdated w = record { number = 100; folds = 0; running = 0; tween = w }
 unfoldable pub updatedWords : LaxTween → Updated → LaxUpdated
 updatedWords w (updated.Ran u k running) = record { number = 0; folds = k; running = flagWord running; tween = tweenWords u }
 updatedWords w (updated.Refused u r) = record { number = numberOf r; folds = 0; running = 0; tween = w }
+
+abbrev pub outcomeNumber : Outcome → ℕ
+outcomeNumber outcome.Finished = 0
+outcomeNumber (outcome.Refused r) = numberOf r
+
+-- where no step was taken the tween is the one that came
+unfoldable pub runWords : LaxTween → Run → LaxRun
+runWords w run = record { done = run .done; number = outcomeNumber (run .outcome); tween = cond (eqb (run .done) 0) w (tweenWords (run .tween)) }

@@ -1,9 +1,11 @@
 // What the exported functions answer. Where number is not 0 the rest is 0, but for a tween, which is
 // then the one that came.
 ghost use mathlib.Core.Path.{_≡_};
-ghost use Rattle.capi.specs.Answers.{valueWords, flagWords, noValue, noFlag, equalityWords, secondsWords, progressWords, snapshotWords, noSnapshot, changedWords, updatedWords};
+ghost use Rattle.capi.specs.Answers.{valueWords, flagWords, noValue, noFlag, equalityWords, secondsWords, progressWords, snapshotWords, noSnapshot, changedWords, updatedWords, outcomeNumber, runWords};
 use easing::Eased;
 use easing::Equality;
+use steps::Outcome;
+use steps::Run;
 use tween::Changed;
 use tween::Snapped;
 use tween::Updated;
@@ -54,6 +56,14 @@ pub struct LaxUpdated {
     pub number: u32,
     pub folds: u32,
     pub running: u32,
+    pub tween: LaxTween,
+}
+
+// done is how many steps were taken; where that is 0 the tween is the one that came.
+#[repr(C)]
+pub struct LaxRun {
+    pub done: usize,
+    pub number: u32,
     pub tween: LaxTween,
 }
 
@@ -188,5 +198,34 @@ pub fn updated_words(t: LaxTween, a: Updated) -> LaxUpdated
             running: 0,
             tween: t,
         },
+    }
+}
+
+fn outcome_number(outcome: Outcome) -> u32
+    ensures { λ r. ⌜ r ≡ outcomeNumber outcome ⌝ }
+{
+    match outcome {
+        Outcome::Finished => 0,
+        Outcome::Refused(refusal) => refusal.number(),
+    }
+}
+
+pub fn run_words(t: LaxTween, run: Run) -> LaxRun
+    ensures { λ r. ⌜ r ≡ runWords t run ⌝ }
+{
+    let outcome = run.outcome;
+    let number = outcome_number(outcome);
+    if run.done == 0 {
+        return LaxRun {
+            done: 0,
+            number,
+            tween: t,
+        };
+    }
+    let tween = run.tween;
+    LaxRun {
+        done: run.done,
+        number,
+        tween: tween_words(tween),
     }
 }

@@ -7,6 +7,7 @@ mod tweens;
 pub use answers::LaxChanged;
 pub use answers::LaxEasingAnswer;
 pub use answers::LaxFlag;
+pub use answers::LaxRun;
 pub use answers::LaxSnapshot;
 pub use answers::LaxUpdated;
 pub use answers::LaxValue;

@@ -2,8 +2,9 @@
 ghost use mathlib.Core.Path.{_≡_};
 ghost use Rattle.words.specs.Tweens.{tweenWords};
 ghost use Rattle.tween.specs.Parts.{newOf};
-ghost use Rattle.capi.specs.Tweens.{laxTweenValue, laxTweenProgress, laxTweenEasedProgress, laxTweenSnapshot, laxTweenPlaybackDuration, laxTweenReset, laxTweenSeek, laxTweenReverse, laxTweenPause, laxTweenResume, laxTweenUpdate};
+ghost use Rattle.capi.specs.Tweens.{laxTweenValue, laxTweenProgress, laxTweenEasedProgress, laxTweenSnapshot, laxTweenPlaybackDuration, laxTweenReset, laxTweenSeek, laxTweenReverse, laxTweenPause, laxTweenResume, laxTweenUpdate, laxTweenRun, laxRunValues, laxRunFolds};
 use crate::answers::LaxChanged;
+use crate::answers::LaxRun;
 use crate::answers::LaxSnapshot;
 use crate::answers::LaxUpdated;
 use crate::answers::LaxValue;
@@ -11,10 +12,12 @@ use crate::answers::changed_words;
 use crate::answers::no_snapshot;
 use crate::answers::no_value;
 use crate::answers::progress_words;
+use crate::answers::run_words;
 use crate::answers::seconds_words;
 use crate::answers::snapshot_words;
 use crate::answers::updated_words;
 use crate::answers::value_words;
+use steps::run_steps;
 use tween::Tween;
 use units::Progress;
 use words::LaxTween;
@@ -154,6 +157,31 @@ pub extern "C" fn lax_tween_update(w: LaxTween, step: f32) -> LaxUpdated
             number: 100,
             folds: 0,
             running: 0,
+            tween: w,
+        },
+    }
+}
+
+// The value after each step and the folds of each go into the fronts of values and folds.
+#[no_mangle]
+pub extern "C" fn lax_tween_run(
+    w: LaxTween,
+    steps: &[f32],
+    values: &mut [f32],
+    folds: &mut [u32],
+) -> LaxRun
+    ensures answer { λ r. ⌜ r ≡ laxTweenRun w (now (steps .entry)) (now (values .entry)) (now (folds .entry)) ⌝ }
+    ensures value { λ _. ⌜ now (values .exit) ≡ laxRunValues w (now (steps .entry)) (now (values .entry)) (now (folds .entry)) ⌝ }
+    ensures fold { λ _. ⌜ now (folds .exit) ≡ laxRunFolds w (now (steps .entry)) (now (values .entry)) (now (folds .entry)) ⌝ }
+{
+    match tween_of(w) {
+        TweenRead::Known(t) => {
+            let run = run_steps(t, steps, values, folds);
+            run_words(w, run)
+        }
+        TweenRead::Unknown => LaxRun {
+            done: 0,
+            number: 100,
             tween: w,
         },
     }
