@@ -1,5 +1,7 @@
 // The calls that only read. Each is refused 4 where the tween breaks a limit.
 ghost use mathlib.Core.Path.{_≡_};
+ghost use mathlib.Core.Bool.{true};
+ghost use Rattle.tween.specs.Limits.{withinOf};
 ghost use Rattle.tween.specs.Calls.{progressIn, blendIn, lasts, progressOf, easedProgressOf, valueOf, snapshotOf, playbackDurationOf};
 use crate::answers::Snapped;
 use crate::limits::within;
@@ -50,6 +52,18 @@ fn lasts_for(looping: Loop, delay: f32, duration: f32) -> f32
     }
 }
 
+// `value` of a tween that is known to be within its limits: an inner step, for runs of many.
+pub fn value_in(t: Tween) -> Eased
+    requires { ⌜ withinOf t ≡ true ⌝ }
+    ensures { λ r. ⌜ r ≡ valueOf t ⌝ }
+{
+    if t.duration == 0.0 {
+        return Eased::Value(t.end);
+    }
+    let easing = t.easing;
+    blend_in(t, easing.apply(Progress(progress_in(t))))
+}
+
 impl Tween {
     // The value at this time.
     pub fn value(self) -> Eased
@@ -58,11 +72,7 @@ impl Tween {
         if !within(self) {
             return Eased::Refused(Refusal::RecordBreaksLimit);
         }
-        if self.duration == 0.0 {
-            return Eased::Value(self.end);
-        }
-        let easing = self.easing;
-        blend_in(self, easing.apply(Progress(progress_in(self))))
+        value_in(self)
     }
 
     // How far along in the pass under way, from 0 to 1, before the easing.

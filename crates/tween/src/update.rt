@@ -1,7 +1,9 @@
 // A step in time.
 ghost use mathlib.Core.Path.{_≡_};
+ghost use mathlib.Core.Bool.{true};
 ghost use Prim.Native.Nat.{_≤_};
 ghost use Rattle.math.specs.Rounded.{_⊕_, _⊗_};
+ghost use Rattle.tween.specs.Limits.{withinOf};
 ghost use Rattle.tween.specs.Update.{afterFolds, ran, advanced, waitOf, runOf, byState, finishOf, updateOf};
 use crate::answers::Updated;
 use crate::fold::Folding;
@@ -157,6 +159,20 @@ fn finish(t: Tween, begun: Begun) -> Updated
     }
 }
 
+// `update` of a tween that is known to be within its limits: an inner step, for runs of many.
+pub fn step_on(t: Tween, step: f32) -> Updated
+    requires { ⌜ withinOf t ≡ true ⌝ }
+    ensures { λ r. ⌜ r ≡ updateOf t step ⌝ }
+{
+    if step > 16777216.0 {
+        return Updated::Refused {
+            tween: t,
+            refusal: Refusal::StepTooLong,
+        };
+    }
+    finish(t, begin(t, math::max_zero(step)))
+}
+
 impl Tween {
     // Moves on by step seconds. Refused: 4, 5 for a step above 16,777,216, 6 for a step that is lost, 7 for one that needs more than 4,096 folds.
     pub fn update(self, step: f32) -> Updated
@@ -168,12 +184,6 @@ impl Tween {
                 refusal: Refusal::RecordBreaksLimit,
             };
         }
-        if step > 16777216.0 {
-            return Updated::Refused {
-                tween: self,
-                refusal: Refusal::StepTooLong,
-            };
-        }
-        finish(self, begin(self, math::max_zero(step)))
+        step_on(self, step)
     }
 }

@@ -1,0 +1,128 @@
+//! The C interface, as include/laxombiit.h has it.
+
+#[repr(C)]
+#[derive(Clone, Copy)]
+pub struct LaxEasing {
+    pub kind: u32,
+    pub a: f32,
+    pub b: f32,
+    pub c: f32,
+    pub d: f32,
+    pub count: u32,
+}
+
+#[repr(C)]
+#[derive(Clone, Copy)]
+pub struct LaxLoop {
+    pub mode: u32,
+    pub passes: u32,
+}
+
+#[repr(C)]
+#[derive(Clone, Copy)]
+pub struct LaxTween {
+    pub start: f32,
+    pub end: f32,
+    pub duration: f32,
+    pub easing: LaxEasing,
+    pub delay: f32,
+    pub time_scale: f32,
+    pub looping: LaxLoop,
+    pub elapsed: f32,
+    pub delay_elapsed: f32,
+    pub state: u32,
+    pub loop_count: u32,
+    pub ping_pong_reverse: u32,
+}
+
+#[repr(C)]
+pub struct LaxValue {
+    pub number: u32,
+    pub value: f32,
+}
+
+#[repr(C)]
+pub struct LaxFlag {
+    pub number: u32,
+    pub flag: u32,
+}
+
+#[repr(C)]
+pub struct LaxEasingAnswer {
+    pub number: u32,
+    pub easing: LaxEasing,
+}
+
+#[repr(C)]
+pub struct LaxSnapshot {
+    pub number: u32,
+    pub elapsed: f32,
+    pub delay_elapsed: f32,
+    pub state: u32,
+    pub loop_count: u32,
+    pub ping_pong_reverse: u32,
+}
+
+#[repr(C)]
+pub struct LaxChanged {
+    pub number: u32,
+    pub tween: LaxTween,
+}
+
+#[repr(C)]
+pub struct LaxUpdated {
+    pub number: u32,
+    pub folds: u32,
+    pub running: u32,
+    pub tween: LaxTween,
+}
+
+#[repr(C)]
+pub struct LaxRun {
+    pub done: usize,
+    pub number: u32,
+    pub tween: LaxTween,
+}
+
+const _: () = {
+    use std::mem::size_of;
+    assert!(size_of::<LaxEasing>() == 24);
+    assert!(size_of::<LaxLoop>() == 8);
+    assert!(size_of::<LaxTween>() == 72);
+    assert!(size_of::<LaxValue>() == 8);
+    assert!(size_of::<LaxFlag>() == 8);
+    assert!(size_of::<LaxEasingAnswer>() == 28);
+    assert!(size_of::<LaxSnapshot>() == 24);
+    assert!(size_of::<LaxChanged>() == 76);
+    assert!(size_of::<LaxUpdated>() == 84);
+    assert!(size_of::<LaxRun>() == 88);
+};
+
+extern "C" {
+    pub fn lax_easing_apply(e: LaxEasing, t: f32) -> LaxValue;
+    pub fn lax_easing_eq(x: LaxEasing, y: LaxEasing) -> LaxFlag;
+    pub fn lax_easing_is_supplied(e: LaxEasing) -> LaxFlag;
+    pub fn lax_easing_named(place: u32) -> LaxEasingAnswer;
+
+    pub fn lax_tween_new(start: f32, end: f32) -> LaxTween;
+    pub fn lax_tween_value(t: LaxTween) -> LaxValue;
+    pub fn lax_tween_progress(t: LaxTween) -> LaxValue;
+    pub fn lax_tween_eased_progress(t: LaxTween) -> LaxValue;
+    pub fn lax_tween_snapshot(t: LaxTween) -> LaxSnapshot;
+    pub fn lax_tween_playback_duration(t: LaxTween) -> LaxValue;
+    pub fn lax_tween_reset(t: LaxTween) -> LaxChanged;
+    pub fn lax_tween_seek(t: LaxTween, progress: f32) -> LaxChanged;
+    pub fn lax_tween_reverse(t: LaxTween) -> LaxChanged;
+    pub fn lax_tween_pause(t: LaxTween) -> LaxChanged;
+    pub fn lax_tween_resume(t: LaxTween) -> LaxChanged;
+    pub fn lax_tween_update(t: LaxTween, step: f32) -> LaxUpdated;
+    pub fn lax_tween_run(
+        t: LaxTween,
+        steps: *const f32,
+        steps_len: usize,
+        values: *mut f32,
+        values_len: usize,
+        folds: *mut u32,
+        folds_len: usize,
+    ) -> LaxRun;
+}

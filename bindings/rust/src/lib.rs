@@ -1,0 +1,14 @@
+//! Proved easings, tweens and keyframe tracks, with animato's names. Each call answers a `Result`:
+//! what is refused is refused by number, exactly when the rules say, and a refused call changes
+//! nothing. What is promised, and where it is proved, stands in the repository's
+//! docs/CONTRACTS.md.
+#![warn(missing_docs)]
+
+mod easing;
+mod ffi;
+mod refusal;
+mod tween;
+
+pub use easing::Easing;
+pub use refusal::Refusal;
+pub use tween::{Loop, Stopped, Tween, TweenSnapshot, TweenState, Updated};

@@ -1,0 +1,154 @@
+//! Every call of a tween: ordinary, edge and refused input.
+use laxombiit::{Easing, Loop, Refusal, Stopped, Tween, TweenState, Updated};
+
+fn ramp(duration: f32, looping: Loop) -> Tween {
+    Tween { duration, looping, ..Tween::new(10.0, 20.0) }
+}
+
+/// Breaks a limit: its duration is below 0.
+fn broken() -> Tween {
+    ramp(-1.0, Loop::Once)
+}
+
+#[test]
+fn new() {
+    let t = Tween::new(1.0, 3.0);
+    assert_eq!((t.start, t.end, t.duration, t.delay, t.time_scale), (1.0, 3.0, 1.0, 0.0, 1.0));
+    assert_eq!((t.easing, t.looping, t.state), (Easing::Linear, Loop::Once, TweenState::Running));
+    assert_eq!(Tween::new(f32::NAN, 0.0).value(), Err(Refusal::RecordBreaksLimit));
+}
+
+#[test]
+fn reads() {
+    let mut t = ramp(4.0, Loop::Times(3));
+    t.easing = Easing::EaseInQuad;
+    t.elapsed = 2.0;
+    assert_eq!(t.progress(), Ok(0.5));
+    assert_eq!(t.eased_progress(), Ok(0.25));
+    assert_eq!(t.value(), Ok(12.5));
+    t.ping_pong_reverse = true;
+    assert_eq!(t.value(), Ok(17.5));
+    assert_eq!(t.playback_duration(), Ok(12.0));
+    assert_eq!(ramp(4.0, Loop::PingPong).playback_duration(), Ok(f32::INFINITY));
+    let now = t.snapshot().unwrap();
+    assert_eq!((now.elapsed, now.ping_pong_reverse, now.state), (2.0, true, TweenState::Running));
+}
+
+#[test]
+fn reads_at_duration_0() {
+    let t = ramp(0.0, Loop::Once);
+    assert_eq!((t.value(), t.progress(), t.eased_progress()), (Ok(20.0), Ok(1.0), Ok(1.0)));
+}
+
+#[test]
+fn reads_refuse() {
+    let t = broken();
+    assert_eq!(t.value(), Err(Refusal::RecordBreaksLimit));
+    assert_eq!(t.progress(), Err(Refusal::RecordBreaksLimit));
+    assert_eq!(t.eased_progress(), Err(Refusal::RecordBreaksLimit));
+    assert_eq!(t.playback_duration(), Err(Refusal::RecordBreaksLimit));
+    assert_eq!(t.snapshot(), Err(Refusal::RecordBreaksLimit));
+}
+
+#[test]
+fn changes() {
+    let mut t = ramp(4.0, Loop::Times(3));
+    t.delay = 1.0;
+    t.reset().unwrap();
+    assert_eq!(t.state, TweenState::Idle);
+    t.pause().unwrap();
+    assert_eq!(t.state, TweenState::Idle);
+    t.update(2.0).unwrap();
+    assert_eq!((t.state, t.elapsed), (TweenState::Running, 1.0));
+    t.pause().unwrap();
+    assert_eq!(t.state, TweenState::Paused);
+    assert_eq!(t.update(1.0), Ok(Updated { folds: 0, running: true }));
+    t.resume().unwrap();
+    assert_eq!((t.state, t.elapsed), (TweenState::Running, 1.0));
+    t.reverse().unwrap();
+    assert_eq!((t.start, t.end, t.elapsed), (20.0, 10.0, 3.0));
+    t.seek(0.25).unwrap();
+    assert_eq!(t.elapsed, 1.0);
+    t.seek(7.0).unwrap();
+    assert_eq!(t.elapsed, 4.0);
+}
+
+#[test]
+fn changes_refuse_and_leave_the_tween() {
+    let mut t = broken();
+    assert_eq!(t.reset(), Err(Refusal::RecordBreaksLimit));
+    assert_eq!(t.seek(f32::NAN), Err(Refusal::RecordBreaksLimit));
+    assert_eq!(t.reverse(), Err(Refusal::RecordBreaksLimit));
+    assert_eq!(t.pause(), Err(Refusal::RecordBreaksLimit));
+    assert_eq!(t.resume(), Err(Refusal::RecordBreaksLimit));
+    assert_eq!(t.update(f32::INFINITY), Err(Refusal::RecordBreaksLimit));
+    assert_eq!(t, broken());
+    let mut u = ramp(4.0, Loop::Once);
+    assert_eq!(u.seek(f32::NAN), Err(Refusal::ProgressIsNan));
+    u.easing = Easing::EaseInSine;
+    assert_eq!(u.reset(), Err(Refusal::RecordBreaksLimit));
+}
+
+#[test]
+fn update() {
+    let mut t = Tween { duration: 3.0, delay: 2.0, looping: Loop::Times(4), ..Tween::new(0.0, 1.0) };
+    t.reset().unwrap();
+    let mut seen = Vec::new();
+    for step in [3.0, 5.0, 100.0] {
+        seen.push((t.update(step).unwrap().folds, t.elapsed));
+    }
+    assert_eq!(seen, [(0, 1.0), (2, 0.0), (2, 3.0)]);
+    assert_eq!((t.state, t.loop_count), (TweenState::Completed, 4));
+    assert_eq!(t.update(1.0), Ok(Updated { folds: 0, running: false }));
+    for step in [f32::NAN, -1.0, -0.0] {
+        let mut t = ramp(4.0, Loop::Once);
+        assert_eq!(t.update(step), Ok(Updated { folds: 0, running: true }));
+        assert_eq!(t, ramp(4.0, Loop::Once));
+    }
+    let mut t = ramp(0.0, Loop::Forever);
+    assert_eq!(t.update(1.0), Ok(Updated { folds: 0, running: false }));
+    assert_eq!(t.elapsed.to_bits(), 0);
+}
+
+#[test]
+fn update_refuses() {
+    let mut t = ramp(1.0, Loop::Forever);
+    assert_eq!(t.update(f32::INFINITY), Err(Refusal::StepTooLong));
+    assert_eq!(t.update(4097.0), Err(Refusal::TooManyFolds));
+    assert_eq!(t.update(4096.0).map(|u| u.folds), Ok(4096));
+    let mut t = ramp(16_777_216.0, Loop::Once);
+    t.elapsed = 8_388_608.0;
+    assert_eq!(t.update(0.25), Err(Refusal::StepLost));
+    assert_eq!(t.elapsed, 8_388_608.0);
+}
+
+#[test]
+fn run() {
+    let mut t = ramp(4.0, Loop::Forever);
+    let (mut values, mut folds) = ([-1.0; 5], [9; 5]);
+    t.run(&[1.0, 2.0, 9.0], &mut values, &mut folds).unwrap();
+    assert_eq!((values, folds), ([12.5, 17.5, 10.0, -1.0, -1.0], [0, 0, 3, 9, 9]));
+    let mut u = ramp(4.0, Loop::Forever);
+    for step in [1.0, 2.0, 9.0] {
+        u.update(step).unwrap();
+    }
+    assert_eq!(t, u);
+    assert_eq!(t.run(&[], &mut [], &mut []), Ok(()));
+    assert_eq!(t, u);
+}
+
+#[test]
+fn run_stops() {
+    let mut t = ramp(4.0, Loop::Forever);
+    let (mut values, mut folds) = ([-1.0; 3], [9; 3]);
+    let stopped = t.run(&[1.0, f32::INFINITY, 1.0], &mut values, &mut folds);
+    assert_eq!(stopped, Err(Stopped { place: 1, refusal: Refusal::StepTooLong }));
+    assert_eq!((t.elapsed, values, folds), (1.0, [12.5, -1.0, -1.0], [0, 9, 9]));
+    let mut u = ramp(4.0, Loop::Forever);
+    let short = Err(Stopped { place: 0, refusal: Refusal::OutputTooShort });
+    assert_eq!(u.run(&[1.0, 1.0], &mut [0.0], &mut [0, 0]), short);
+    assert_eq!(u.run(&[1.0, 1.0], &mut [0.0, 0.0], &mut [0]), short);
+    assert_eq!(u, ramp(4.0, Loop::Forever));
+    let refused = Err(Stopped { place: 0, refusal: Refusal::RecordBreaksLimit });
+    assert_eq!(broken().run(&[1.0, 1.0], &mut [0.0], &mut [0, 0]), refused);
+}

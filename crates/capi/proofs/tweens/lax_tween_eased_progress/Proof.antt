@@ -1,0 +1,19 @@
+-- `lax_tween_eased_progress` meets its contract, by what its callees ensure. Assumes nothing.
+use borrow.Author.Needs.{needs}
+use Rattle.capi.specs.Tweens.{laxTweenEasedProgress}
+use Rattle.capi.proofs.tweens.lax_tween_eased_progress.Statement.{statement}
+use Rattle.capi.proofs.tweens.lax_tween_eased_progress.Tie as tie
+
+pub lax-tween-eased-progress-spec : {M : Type 1} → statement M
+unfolding laxTweenEasedProgress
+lax-tween-eased-progress-spec =
+    tie.close
+    (tie.spec
+    (λ c κs. search needs)
+    (λ c. search needs)
+    (λ c κs. search needs)
+    (λ c κs. search needs)
+    (λ c. search needs)
+    (λ c κs. search needs)
+    (λ c. simp (← (c .before .before .before .before .before .tween-of .ensures), c .before .before .before .t .given .1, c .value-words .ensures, c .before .eased-progress .ensures))
+    (λ c. simp (← (c .before .before .before .tween-of .ensures), c .before .enum-told .given .1, c .no-value .ensures)))

@@ -1,0 +1,19 @@
+-- `lax_tween_progress` meets its contract, by what its callees ensure. Assumes nothing.
+use borrow.Author.Needs.{needs}
+use Rattle.capi.specs.Tweens.{laxTweenProgress}
+use Rattle.capi.proofs.tweens.lax_tween_progress.Statement.{statement}
+use Rattle.capi.proofs.tweens.lax_tween_progress.Tie as tie
+
+pub lax-tween-progress-spec : {M : Type 1} → statement M
+unfolding laxTweenProgress
+lax-tween-progress-spec =
+    tie.close
+    (tie.spec
+    (λ c κs. search needs)
+    (λ c. search needs)
+    (λ c κs. search needs)
+    (λ c κs. search needs)
+    (λ c. search needs)
+    (λ c κs. search needs)
+    (λ c. simp (← (c .before .before .before .before .before .tween-of .ensures), c .before .before .before .t .given .1, c .progress-words .ensures, c .before .progress .ensures))
+    (λ c. simp (← (c .before .before .before .tween-of .ensures), c .before .enum-told .given .1, c .no-value .ensures)))

@@ -1,0 +1,13 @@
+// The C interface. Every record goes in and comes back by value, as words; a call answers a number
+// beside its answer: 0, the refusal's number, or 100 where a word is no kind, no mode or no state.
+mod answers;
+mod easings;
+mod tweens;
+
+pub use answers::LaxChanged;
+pub use answers::LaxEasingAnswer;
+pub use answers::LaxFlag;
+pub use answers::LaxRun;
+pub use answers::LaxSnapshot;
+pub use answers::LaxUpdated;
+pub use answers::LaxValue;

@@ -1,0 +1,105 @@
+-- How a run stands after its first i steps, and how it goes on and ends from there. Assumes nothing.
+use Prim.Native.Nat.{ℕ, zero, suc, _+_, _<_, _≤_}
+use mathlib.Core.Path.{_≡_, refl, sym, ap, _∙_}
+use mathlib.Core.Bool.{true, false}
+use mathlib.Core.List.{List, [], _∷_, _++_, append-assoc, append-nil}
+use native.Mathlib.Numerals.{add-one}
+use native.Mathlib.Omega.{arith}
+use borrow.Author.Tests.{le-leb, lt-leb}
+use lib.ListN.{length, drop, getD, set, length-append, length-set}
+use lib.Seq.{drop-cons, drop-length, set-at}
+use lib.Ieee.{Float, nan}
+use Rattle.refusal.specs.declared.Refusal.{Refusal}
+use Rattle.refusal.specs.declared.Refusal.the-variants.{RecordBreaksLimit, OutputTooShort}
+use Rattle.tween.specs.declared.record.Tween.{Tween}
+use Rattle.tween.specs.Limits.{withinOf}
+use Rattle.steps.specs.declared.take.Taken.the-variants.{Took, Stops}
+use Rattle.steps.specs.declared.run.Outcome.{Outcome}
+use Rattle.steps.specs.declared.run.Outcome.the-variants.{Finished, Refused}
+use Rattle.steps.specs.Course.{stepOf, Course, stopped, courseOf, runOf, answerOf, over}
+
+-- a course that takes no step
+abbrev still : Tween → Outcome → Course
+still t o = record { tween = t; values = []; folds = []; outcome = o }
+
+-- values and folds that come before those of a course
+abbrev behind : List Float → List ℕ → Course → Course
+behind vs fs c = record { tween = c .tween; values = vs ++ c .values; folds = fs ++ c .folds; outcome = c .outcome }
+
+-- a front of i places is written, and behind it a list is as it was
+abbrev Written : {A : Type 0} → List A → ℕ → List A → List A → Type 0
+Written {A} front i l was = (length front ≡ i) × (l ≡ front ++ drop i was)
+
+-- one place more
+more : {A : Type 0} (d : A) (front : List A) (i : ℕ) (l was : List A) (x : A) → i < length was → Written front i l was → Written (front ++ (x ∷ [])) (i + 1) (set l i x) was
+more {A} d front i l was x h (n, e) = (
+  length-append front (x ∷ []) ∙ ap (λ (k : ℕ). k + 1) n,
+  rw (e, add-one, append-assoc, drop-cons was i d h) (set-at front (getD was i d) (drop (suc i) was) x i n),
+)
+
+pub record Reached (steps values₀ : List Float) (folds₀ : List ℕ) (t₀ : Tween) (values : List Float) (folds : List ℕ) (t : Tween) (i : ℕ) : Type 0 where
+  pub front : List Float
+  pub counts : List ℕ
+  pub values-are : Written front i values values₀
+  pub folds-are : Written counts i folds folds₀
+  pub course-is : courseOf steps t₀ ≡ behind front counts (courseOf (drop i steps) t)
+  pub values-long : length values ≡ length values₀
+  pub folds-long : length folds ≡ length folds₀
+  pub within : withinOf t ≡ true
+  pub few : i ≤ length steps
+
+module _ (steps values₀ : List Float) (folds₀ : List ℕ) (t₀ : Tween) where
+  pub begins : withinOf t₀ ≡ true → Reached steps values₀ folds₀ t₀ values₀ folds₀ t₀ 0
+  begins h = record { front = []; counts = []; values-are = (refl, refl); folds-are = (refl, refl); course-is = refl; values-long = refl; folds-long = refl; within = h; few = omega arith }
+
+  module _ (room : length steps ≤ length values₀) (place : length steps ≤ length folds₀) (values : List Float) (folds : List ℕ) (t : Tween) (i : ℕ) (s : Reached steps values₀ folds₀ t₀ values folds t i) where
+    pub goes-on : (u : Tween) (v : Float) (k : ℕ) → i < length steps → stepOf t (getD steps i nan) ≡ Took u v k → withinOf u ≡ true
+        → Reached steps values₀ folds₀ t₀ (set values i v) (set folds i k) u (i + 1)
+    unfolding courseOf
+    goes-on u v k h e w =
+        record {
+          front = s .front ++ (v ∷ []);
+          counts = s .counts ++ (k ∷ []);
+          values-are = more nan (s .front) i values values₀ v (omega arith) (s .values-are);
+          folds-are = more 0 (s .counts) i folds folds₀ k (omega arith) (s .folds-are);
+          course-is = s .course-is ∙ (rw (drop-cons steps i nan h, e, add-one, append-assoc, append-assoc));
+          values-long = length-set values i v ∙ s .values-long;
+          folds-long = length-set folds i k ∙ s .folds-long;
+          within = w;
+          few = omega arith;
+        }
+
+    -- the run ends here
+    ends : (o : Outcome) → courseOf (drop i steps) t ≡ still t o
+        → (record { tween = t; done = i; outcome = o } ≡ answerOf (courseOf steps t₀)) × (values ≡ over (courseOf steps t₀ .values) values₀) × (folds ≡ over (courseOf steps t₀ .folds) folds₀)
+    ends o e = rw (s .course-is, e, append-nil (s .front), append-nil (s .counts), s .values-are .0, s .folds-are .0) (refl, s .values-are .1, s .folds-are .1)
+
+    pub stops : (r : Refusal) → i < length steps → stepOf t (getD steps i nan) ≡ Stops r
+        → (record { tween = t; done = i; outcome = Refused r } ≡ answerOf (courseOf steps t₀)) × (values ≡ over (courseOf steps t₀ .values) values₀) × (folds ≡ over (courseOf steps t₀ .folds) folds₀)
+    unfolding courseOf
+    stops r h e = ends (Refused r) (rw (drop-cons steps i nan h, e))
+
+    pub finishes : i ≡ length steps
+        → (record { tween = t; done = i; outcome = Finished } ≡ answerOf (courseOf steps t₀)) × (values ≡ over (courseOf steps t₀ .values) values₀) × (folds ≡ over (courseOf steps t₀ .folds) folds₀)
+    unfolding courseOf
+    finishes e = ends Finished (ap (λ (n : ℕ). courseOf (drop n steps) t) e ∙ (rw (drop-length steps)))
+
+-- what `run_steps` answers, by its tests
+module _ (t : Tween) (steps values : List Float) (folds : List ℕ) where
+  pub broken : withinOf t ≡ false → runOf t steps values folds ≡ stopped t RecordBreaksLimit
+  unfolding runOf
+  broken h = rw h
+
+  module _ (h : withinOf t ≡ true) where
+    pub few-values : length values < length steps → runOf t steps values folds ≡ stopped t OutputTooShort
+    unfolding runOf
+    few-values k = rw (h, lt-leb (length steps) (length values) k)
+
+    module _ (room : length steps ≤ length values) where
+      pub few-folds : length folds < length steps → runOf t steps values folds ≡ stopped t OutputTooShort
+      unfolding runOf
+      few-folds k = rw (h, le-leb (length steps) (length values) room, lt-leb (length steps) (length folds) k)
+
+      pub runs : length steps ≤ length folds → runOf t steps values folds ≡ courseOf steps t
+      unfolding runOf
+      runs k = rw (h, le-leb (length steps) (length values) room, le-leb (length steps) (length folds) k)

@@ -1,0 +1,2 @@
+mod Courses
+mod Taking

@@ -1,0 +1,69 @@
+-- A run of steps, by `update` and `value` and nothing else.
+use Prim.Native.Nat.{ℕ}
+use mathlib.Core.Bool.{_&&_, cond}
+use mathlib.Core.List.{List, [], _∷_, _++_}
+use lib.Dec.{leb}
+use lib.ListN.{length, drop}
+use lib.Ieee.{Float}
+use Rattle.refusal.specs.declared.Refusal.{Refusal}
+use Rattle.refusal.specs.declared.Refusal.the-variants.{RecordBreaksLimit, OutputTooShort}
+use Rattle.easing.specs.declared.answers.Eased.{Eased}
+use Rattle.easing.specs.declared.answers.Eased.the-variants as eased
+use Rattle.tween.specs.declared.record.Tween.{Tween}
+use Rattle.tween.specs.declared.answers.Updated.{Updated}
+use Rattle.tween.specs.declared.answers.Updated.the-variants as updated
+use Rattle.tween.specs.Limits.{withinOf}
+use Rattle.tween.specs.Calls.{valueOf}
+use Rattle.tween.specs.Update.{updateOf}
+use Rattle.steps.specs.declared.take.Taken.{Taken}
+use Rattle.steps.specs.declared.take.Taken.the-variants.{Took, Stops}
+use Rattle.steps.specs.declared.run.Outcome.{Outcome}
+use Rattle.steps.specs.declared.run.Outcome.the-variants.{Finished, Refused}
+use Rattle.steps.specs.declared.run.Run.{Run}
+
+-- the value behind an update; where it is refused, so is the step
+abbrev pub valued : Tween → ℕ → Eased → Taken
+valued u k (eased.Value v) = Took u v k
+valued u k (eased.Refused r) = Stops r
+
+abbrev pub taken : Updated → Taken
+taken (updated.Ran u k running) = valued u k (valueOf u)
+taken (updated.Refused u r) = Stops r
+
+-- one step: an update, and the value behind it
+unfoldable pub stepOf : Tween → Float → Taken
+stepOf t x = taken (updateOf t x)
+
+-- what a run comes to: the tween, the value and the folds of each step that was taken, and how it ended
+pub record Course : Type 0 where
+  pub tween : Tween
+  pub values : List Float
+  pub folds : List ℕ
+  pub outcome : Outcome
+
+-- nothing taken, and refused
+abbrev pub stopped : Tween → Refusal → Course
+stopped t r = record { tween = t; values = []; folds = []; outcome = Refused r }
+
+-- a step that was taken, and the rest; or the first refusal, with the tween as it stood
+abbrev pub followed : Taken → Tween → (Tween → Course) → Course
+followed (Took u v k) t rest = let c = rest u in record { tween = c .tween; values = v ∷ c .values; folds = k ∷ c .folds; outcome = c .outcome }
+followed (Stops r) t rest = stopped t r
+
+unfoldable pub courseOf : List Float → Tween → Course
+courseOf [] t = record { tween = t; values = []; folds = []; outcome = Finished }
+courseOf (x ∷ steps) t = followed (stepOf t x) t (courseOf steps)
+
+-- 4; 12 where a lent list is shorter than the steps
+unfoldable pub runOf : Tween → List Float → List Float → List ℕ → Course
+runOf t steps values folds =
+    cond (withinOf t)
+    (cond (leb (length steps) (length values) && leb (length steps) (length folds)) (courseOf steps t) (stopped t OutputTooShort))
+    (stopped t RecordBreaksLimit)
+
+abbrev pub answerOf : Course → Run
+answerOf c = record { tween = c .tween; done = length (c .values); outcome = c .outcome }
+
+-- a lent list afterwards: the front is written, what lies behind it stays
+abbrev pub over : {A : Type 0} → List A → List A → List A
+over front l = front ++ drop (length front) l

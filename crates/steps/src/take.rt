@@ -1,0 +1,48 @@
+// One step of a run.
+ghost use mathlib.Core.Path.{_≡_};
+ghost use mathlib.Core.Bool.{true};
+ghost use Rattle.tween.specs.Limits.{withinOf};
+ghost use Rattle.steps.specs.Course.{stepOf};
+use easing::Eased;
+use refusal::Refusal;
+use tween::Tween;
+use tween::Updated;
+use tween::step_on;
+use tween::value_in;
+
+pub enum Taken {
+    Took {
+        tween: Tween,
+        value: f32,
+        folds: u32,
+    },
+    Stops(Refusal),
+}
+
+// An update, and the value behind it.
+pub fn take(t: Tween, step: f32) -> Taken
+    requires { ⌜ withinOf t ≡ true ⌝ }
+    ensures { λ r. ⌜ r ≡ stepOf t step ⌝ }
+{
+    match step_on(t, step) {
+        Updated::Ran {
+            tween,
+            folds,
+            running: _,
+        } => {
+            // An update keeps every other limit.
+            if tween.loop_count > 16777216 {
+                return Taken::Stops(Refusal::RecordBreaksLimit);
+            }
+            match value_in(tween) {
+                Eased::Value(value) => Taken::Took {
+                    tween,
+                    value,
+                    folds,
+                },
+                Eased::Refused(refusal) => Taken::Stops(refusal),
+            }
+        }
+        Updated::Refused { tween: _, refusal } => Taken::Stops(refusal),
+    }
+}

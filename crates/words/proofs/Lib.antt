@@ -1,0 +1,3 @@
+mod Plain
+pub mod ReadBack
+mod Rest

@@ -1,0 +1,19 @@
+// Records as words of 32 bits, for the C interface. Reading answers Unknown where a word is no kind, no mode or no state.
+mod kinds;
+mod modes;
+mod tweens;
+
+pub use kinds::EasingRead;
+pub use kinds::LaxEasing;
+pub use kinds::easing_of;
+pub use kinds::easing_words;
+pub use modes::LaxLoop;
+pub use modes::LoopRead;
+pub use modes::flag_word;
+pub use modes::loop_of;
+pub use modes::loop_words;
+pub use modes::state_word;
+pub use tweens::LaxTween;
+pub use tweens::TweenRead;
+pub use tweens::tween_of;
+pub use tweens::tween_words;

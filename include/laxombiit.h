@@ -1,0 +1,223 @@
+/* laxombiit.h: the C interface of Laxombiit, proved easings, tweens and keyframe tracks.
+ *
+ * Every record goes in and comes back by value; nothing is kept between calls, and no call
+ * allocates. Each answer has a number: 0 where the call was accepted, the number of the refusal
+ * where it was refused, LAX_UNKNOWN_WORD where a word is no kind, no mode or no state. Where the
+ * number is not 0 the rest of the answer is 0, but for a record, which is then the one that came,
+ * and lent lists are not written.
+ *
+ * A call refuses by the first rule that applies, in this order:
+ * 4, 1, 2, 3, 5, 11, 10, 12, 9, 6, 7, 8; LAX_UNKNOWN_WORD comes before them all.
+ *
+ * Link with liblaxombiit.a, and with -lm: the tracks take C's fmodf.
+ * The calls want the processor in its default mode: rounding to nearest, subnormals kept.
+ */
+#ifndef LAXOMBIIT_H
+#define LAXOMBIIT_H
+
+#include <stddef.h>
+#include <stdint.h>
+
+#ifdef __cplusplus
+extern "C" {
+#endif
+
+/* The numbers of the refusals. */
+enum {
+    LAX_OK = 0,
+    LAX_PROGRESS_IS_NAN = 1,     /* a progress argument is NaN */
+    LAX_EASING_NOT_SUPPLIED = 2, /* an easing argument is one of the twelve named kinds without a curve */
+    LAX_EASING_PARAMETER = 3,    /* a parameter is not finite or beyond its limit */
+    LAX_RECORD_BREAKS_LIMIT = 4, /* the tween or the track that came breaks a limit */
+    LAX_STEP_TOO_LONG = 5,       /* a step above 16,777,216 s, infinity too */
+    LAX_STEP_LOST = 6,           /* a step above 0 that the f32 sum does not show */
+    LAX_TOO_MANY_FOLDS = 7,      /* 4,096 folds do not suffice */
+    LAX_ELAPSED_TOO_LONG = 8,    /* a track's elapsed would pass 16,777,216 s */
+    LAX_TRACK_FULL = 9,          /* a push into a full track at a time that no frame has */
+    LAX_NO_FRAMES = 10,          /* a track without frames is sampled */
+    LAX_TRACK_LIMIT = 11,        /* a push or a change of mode breaks a limit */
+    LAX_OUTPUT_TOO_SHORT = 12,   /* a lent output is shorter than the list that is read */
+    LAX_UNKNOWN_WORD = 100       /* a word is no kind, no mode or no state */
+};
+
+/* The kinds of easing. Sine, Expo and Elastic in three forms each, RoughEase, Wiggle and ExpoScale
+ * have a name and no curve: they are refused with 2, or with 4 inside a record. */
+enum {
+    LAX_LINEAR = 0,
+    LAX_EASE_IN_QUAD = 1,
+    LAX_EASE_OUT_QUAD = 2,
+    LAX_EASE_IN_OUT_QUAD = 3,
+    LAX_EASE_IN_CUBIC = 4,
+    LAX_EASE_OUT_CUBIC = 5,
+    LAX_EASE_IN_OUT_CUBIC = 6,
+    LAX_EASE_IN_QUART = 7,
+    LAX_EASE_OUT_QUART = 8,
+    LAX_EASE_IN_OUT_QUART = 9,
+    LAX_EASE_IN_QUINT = 10,
+    LAX_EASE_OUT_QUINT = 11,
+    LAX_EASE_IN_OUT_QUINT = 12,
+    LAX_EASE_IN_SINE = 13,
+    LAX_EASE_OUT_SINE = 14,
+    LAX_EASE_IN_OUT_SINE = 15,
+    LAX_EASE_IN_EXPO = 16,
+    LAX_EASE_OUT_EXPO = 17,
+    LAX_EASE_IN_OUT_EXPO = 18,
+    LAX_EASE_IN_CIRC = 19,
+    LAX_EASE_OUT_CIRC = 20,
+    LAX_EASE_IN_OUT_CIRC = 21,
+    LAX_EASE_IN_BACK = 22,
+    LAX_EASE_OUT_BACK = 23,
+    LAX_EASE_IN_OUT_BACK = 24,
+    LAX_EASE_IN_ELASTIC = 25,
+    LAX_EASE_OUT_ELASTIC = 26,
+    LAX_EASE_IN_OUT_ELASTIC = 27,
+    LAX_EASE_IN_BOUNCE = 28,
+    LAX_EASE_OUT_BOUNCE = 29,
+    LAX_EASE_IN_OUT_BOUNCE = 30,
+    LAX_CUBIC_BEZIER = 31,
+    LAX_STEPS = 32,
+    LAX_ROUGH_EASE = 33,
+    LAX_SLOW_MO = 34,
+    LAX_WIGGLE = 35,
+    LAX_CUSTOM_BOUNCE = 36,
+    LAX_EXPO_SCALE = 37
+};
+
+/* A kind and its parameters. CubicBezier: x1, y1, x2, y2 in a to d. Steps and Wiggle: count.
+ * RoughEase: strength in a, points in count. SlowMo: linear_ratio in a, power in b. CustomBounce:
+ * strength in a. ExpoScale: start in a, end in b. Words that a kind has no use for are not looked
+ * at, and come back as 0. */
+typedef struct lax_easing {
+    uint32_t kind;
+    float a, b, c, d;
+    uint32_t count;
+} lax_easing;
+
+/* Loop modes. */
+enum { LAX_ONCE = 0, LAX_TIMES = 1, LAX_FOREVER = 2, LAX_PING_PONG = 3, LAX_PING_PONG_TIMES = 4 };
+
+/* passes is looked at in LAX_TIMES and LAX_PING_PONG_TIMES: at most 65,535, and 0 counts as 1. */
+typedef struct lax_loop {
+    uint32_t mode;
+    uint32_t passes;
+} lax_loop;
+
+/* States of a tween. */
+enum { LAX_IDLE = 0, LAX_RUNNING = 1, LAX_PAUSED = 2, LAX_COMPLETED = 3 };
+
+/* A ramp from start to end. Times are in seconds. ping_pong_reverse is a flag: a word that is not 0
+ * is true, and comes back as 1. */
+typedef struct lax_tween {
+    float start, end;         /* at most 16,777,216 in size */
+    float duration;           /* 0 to 16,777,216, of one pass */
+    lax_easing easing;
+    float delay;              /* 0 to 16,777,216 */
+    float time_scale;         /* 0 to 1,024; the delay is not scaled */
+    lax_loop looping;
+    float elapsed;            /* 0 to duration */
+    float delay_elapsed;      /* 0 to 33,554,432; while idle, below the delay */
+    uint32_t state;
+    uint32_t loop_count;      /* up to 16,777,216 */
+    uint32_t ping_pong_reverse;
+} lax_tween;
+
+typedef struct lax_value {
+    uint32_t number;
+    float value;
+} lax_value;
+
+typedef struct lax_flag {
+    uint32_t number;
+    uint32_t flag; /* 0 or 1 */
+} lax_flag;
+
+typedef struct lax_easing_answer {
+    uint32_t number;
+    lax_easing easing;
+} lax_easing_answer;
+
+/* What moves in a tween. */
+typedef struct lax_snapshot {
+    uint32_t number;
+    float elapsed, delay_elapsed;
+    uint32_t state, loop_count, ping_pong_reverse;
+} lax_snapshot;
+
+typedef struct lax_changed {
+    uint32_t number;
+    lax_tween tween;
+} lax_changed;
+
+/* folds: how many passes the update folded, the completing one too. running: 0 once completed. */
+typedef struct lax_updated {
+    uint32_t number;
+    uint32_t folds;
+    uint32_t running;
+    lax_tween tween;
+} lax_updated;
+
+/* done: how many steps were taken, and so, where number is not 0, the place of the step that was
+ * refused. The tween is as it stood before that step. */
+typedef struct lax_run {
+    size_t done;
+    uint32_t number;
+    lax_tween tween;
+} lax_run;
+
+/* The layout that the archive was built for. */
+typedef char lax_size_of_easing[sizeof(lax_easing) == 24 ? 1 : -1];
+typedef char lax_size_of_loop[sizeof(lax_loop) == 8 ? 1 : -1];
+typedef char lax_size_of_tween[sizeof(lax_tween) == 72 ? 1 : -1];
+typedef char lax_size_of_value[sizeof(lax_value) == 8 ? 1 : -1];
+typedef char lax_size_of_flag[sizeof(lax_flag) == 8 ? 1 : -1];
+typedef char lax_size_of_easing_answer[sizeof(lax_easing_answer) == 28 ? 1 : -1];
+typedef char lax_size_of_snapshot[sizeof(lax_snapshot) == 24 ? 1 : -1];
+typedef char lax_size_of_changed[sizeof(lax_changed) == 76 ? 1 : -1];
+typedef char lax_size_of_updated[sizeof(lax_updated) == 84 ? 1 : -1];
+typedef char lax_size_of_run[sizeof(lax_run) == 88 ? 1 : -1];
+
+/* Easings. */
+
+/* The eased progress at t, which is clamped to 0..1. Refuses 1, 2, 3. */
+lax_value lax_easing_apply(lax_easing e, float t);
+
+/* The same kind with equal parameters; -0 equals 0. Refuses 2, 3, for either side. */
+lax_flag lax_easing_eq(lax_easing x, lax_easing y);
+
+/* Whether the kind has a curve. */
+lax_flag lax_easing_is_supplied(lax_easing e);
+
+/* The kind at a place from 0 to 37, with its usual parameters; LAX_UNKNOWN_WORD beyond. */
+lax_easing_answer lax_easing_named(uint32_t place);
+
+/* Tweens. Each call but the first refuses 4 where the tween breaks a limit. */
+
+/* One second, linear, no delay, scale 1, once; running from its start. Nothing is checked. */
+lax_tween lax_tween_new(float start, float end);
+
+lax_value lax_tween_value(lax_tween t);
+lax_value lax_tween_progress(lax_tween t);       /* of the pass under way, before the easing */
+lax_value lax_tween_eased_progress(lax_tween t);
+lax_snapshot lax_tween_snapshot(lax_tween t);
+lax_value lax_tween_playback_duration(lax_tween t); /* infinity in the modes without an end */
+
+lax_changed lax_tween_reset(lax_tween t);
+lax_changed lax_tween_seek(lax_tween t, float progress); /* in the pass under way; refuses 1 */
+lax_changed lax_tween_reverse(lax_tween t);
+lax_changed lax_tween_pause(lax_tween t);  /* acts on a running tween alone */
+lax_changed lax_tween_resume(lax_tween t); /* acts on a paused tween alone */
+
+/* A step of so many seconds; NaN and what is below 0 count as 0. Refuses 5, 6, 7. */
+lax_updated lax_tween_update(lax_tween t, float step);
+
+/* A run of steps: the value after each goes into values, its folds into folds. Refuses 12 where
+ * either is shorter than steps, and stops at the first step that update or value refuses; the lists
+ * are unwritten from there on. */
+lax_run lax_tween_run(lax_tween t, const float *steps, size_t steps_len, float *values, size_t values_len,
+                      uint32_t *folds, size_t folds_len);
+
+#ifdef __cplusplus
+}
+#endif
+
+#endif
