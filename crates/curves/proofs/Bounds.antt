@@ -1,5 +1,5 @@
 -- How large the curves are at a progress from 0 to 1: each is finite, and at most 134,217,728 in size. Assumes nothing.
-use mathlib.Core.Path.{_≡_, refl}
+use mathlib.Core.Path.{_≡_}
 use mathlib.Core.Bool.{true, false, false≢true}
 use Prim.Native.Nat.{ℕ, _*_, _<_, _≤_, max}
 use native.Mathlib.Omega.{arith}
@@ -11,7 +11,7 @@ use Rattle.math.specs.Rounded.{_⊕_, _⊖_, _⊗_, _⊘_, f32, zeroF, halfF, o
 use Rattle.math.specs.Range.{clamp01Of, maxZeroOf, Within, AtMost}
 use Rattle.math.specs.Whole.{ceilOf, Is}
 use Rattle.math.proofs.Ceiling.{ceil-at-most}
-use Rattle.math.proofs.Bounded.{plus, less, times, over, shrunk, zero-most, half-most, one-most, two-most, two-least, zero-within}
+use Rattle.math.proofs.Bounded.{plus, less, times, over, shrunk, zero-most, half-most, one-most, two-most, two-least, zero-within, held-25, held-26, held-27}
 use Rattle.math.proofs.Choice.{by-test}
 use Rattle.math.proofs.Wholes.{whole-is}
 use Rattle.math.proofs.Upward.{Up, mul-up, max-zero-up}
@@ -190,18 +190,6 @@ edge-least (fin false m e) n h k = reach (m * up e) (down e) (ltb-true (1 * down
   where
     reach : (a d : ℕ) → 1 * d < a * 8388608 → d ≤ 8388608 * a
     reach a d h = omega arith
-
-held-25 : Is (ofInt binary32 (pos 33554432)) 33554432
-unfolding ofInt
-held-25 = (refl, refl)
-
-held-26 : Is (ofInt binary32 (pos 67108864)) 67108864
-unfolding ofInt
-held-26 = (refl, refl)
-
-held-27 : Is (ofInt binary32 (pos 134217728)) 134217728
-unfolding ofInt
-held-27 = (refl, refl)
 
 -- the three parts, where the slope of the edges is at most 2 ^ 24
 part-most : (t lr from to mid edge : Float) → AtMost 1 t → AtMost 1 lr → AtMost 1 from → AtMost 2 to → AtMost 1 mid → AtMost 16777216 edge → AtMost 134217728 (slowPart t lr from to mid edge)

@@ -2,18 +2,19 @@
 use mathlib.Core.Path.{_≡_, refl, sym, ap, _∙_, subst, subst⁻¹}
 use mathlib.Core.Bool.{Bool, true, false}
 use Prim.Native.Nat.{ℕ, suc, _+_, _-_, _*_, _/_, _^_, _<_, _≤_}
-use native.Mathlib.Nat.{le-trans, le-of-eq, lt-of-lt-of-le, lt-of-not-le, le-of-suc-le-suc, lt-irrefl, le-of-lt, mul-le-mul-right, mul-lt-mul-of-pos-right, le-of-mul-le-mul-right, mul-assoc, mul-one, one-mul, mul-comm, le-mul-of-pos-right, mul-div-cancel, le-div-iff-mul-le}
+use native.Mathlib.Nat.{le-trans, le-of-eq, lt-of-lt-of-le, lt-irrefl, le-of-lt, mul-le-mul-right, mul-lt-mul-of-pos-right, le-of-mul-le-mul-right, mul-assoc, mul-one, one-mul, mul-comm, le-mul-of-pos-right, mul-div-cancel, le-div-iff-mul-le}
 use native.Mathlib.Omega.{arith}
 use borrow.Author.Tests.{leb-true, leb-false}
 use lib.IntN.{ℤ, pos, negsuc}
 use lib.Dec.{leb}
-use lib.Pow.{pow-add, pow-mono, pow-pos, pow-lt, shl-lt, shr-lt}
+use lib.Pow.{pow-add, pow-mono, pow-pos, shl-lt, shr-lt}
 use lib.Ieee.{Float, fin, up, down, size}
 use lib.Ieee.Digits.{size-lt, size-reaches, size-le}
 use lib.Ieee.Exact.{HasValue}
 use lib.Ieee.Fits.{down-pos}
 use Rattle.curves.specs.Root.{Encloses, Root, floatAt, scaledOf, placeOf}
 use Rattle.curves.proofs.Nearest.{level, nearest-at-most}
+use Rattle.math.proofs.Fitting.{pow-at-most}
 
 -- what a root is taken of
 abbrev pub Ready : ℕ → Type 0
@@ -42,9 +43,6 @@ rooted x n j q v r e = record { n = n; j = j; q = q; scaled = v; low = r .0; hig
 -- the definition's place, by the size of m * 2 ^ w, and what is left before it
 abbrev pub cut : ℕ → ℕ
 cut n = n / 2 ^ (2 * placeOf n)
-
-pow-at-most : (i p : ℕ) → 2 ^ i ≤ 2 ^ p → i ≤ p
-pow-at-most i p h = le-of-suc-le-suc (lt-of-not-le (λ (g : suc p ≤ i). lt-irrefl (2 ^ p) (lt-of-lt-of-le (pow-lt g) h)))
 
 sized : (m w : ℕ) → 0 < m → m < 2 ^ 24 → 149 ≤ w → Ready (cut (m * 2 ^ w)) × (cut (m * 2 ^ w) * 2 ^ (2 * placeOf (m * 2 ^ w)) ≡ m * 2 ^ w)
 sized m w some fine far =

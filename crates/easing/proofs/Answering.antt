@@ -3,7 +3,7 @@ use Prim.Native.Nat.{ℕ}
 use mathlib.Core.Path.{_≡_, refl, sym, ap, _∙_}
 use mathlib.Core.Bool.{Bool, true, false, _&&_, true≢false}
 use mathlib.Core.Option.{Option, none, some}
-use lib.Dec.{eqb}
+use lib.Dec.{T, eqb}
 use lib.Ieee.{Float, isNan, le, lt, eq, ofBits}
 use Rattle.math.specs.Range.{clamp01Of}
 use Rattle.refusal.specs.declared.Refusal.the-variants.{ProgressIsNan, EasingNotSupplied, EasingParameter}
@@ -14,7 +14,8 @@ use Rattle.easing.specs.declared.answers.Eased.the-variants.{Value, Refu
 use Rattle.easing.specs.declared.answers.Equality.the-variants as equality
 use Rattle.easing.specs.Kinds.{numberOf, curveOf, isSome, suppliedOf}
 use Rattle.easing.specs.Params.{noParams, paramsOf, withinOf, equalOf}
-use Rattle.easing.specs.Apply.{limitedOf, easedAt, applyOf, eqOf}
+use Rattle.easing.specs.Apply.{limitedOf, easedAt, applyOf, fitsRecordOf, eqOf}
+use lib.Ieee.Fits.{and-l, and-r}
 
 pub none-within : withinOf noParams ≡ true
 unfolding withinOf le lt eq ofBits
@@ -60,3 +61,15 @@ module _ (x y : Easing) (s z : Bool) (es : s ≡ suppliedOf x) (ez : z ≡ suppl
     pub eq-compared : i && j ≡ true → (m n : ℕ) (b : Bool) → m ≡ numberOf x → n ≡ numberOf y → b ≡ equalOf p q → equality.Equal (eqb m n && b) ≡ eqOf x y
     unfolding eqOf
     eq-compared k m n b em en eb = rw (em, en, eb, ← es, ← ez, h, ← ep, ← eq, ← ei, ← ej, k)
+
+-- an easing that fits a record answers at any progress that is a number
+pub fits-answers : (e : Easing) (p : Float) → T (fitsRecordOf e) → isNan p ≡ false → (v : Float) × (applyOf e p ≡ Value v)
+unfolding fitsRecordOf suppliedOf applyOf
+fits-answers e p f n =
+    let k = go (curveOf e) (withinOf (paramsOf e)) (clamp01Of p) (and-l (isSome (curveOf e)) (withinOf (paramsOf e)) f) (and-r (isSome (curveOf e)) (withinOf (paramsOf e)) f) in
+    (k .0, rw n (k .1))
+  where
+    go : (c : Option (Float → Float)) (fine : Bool) (u : Float) → T (isSome c) → T fine → (v : Float) × (easedAt c fine u ≡ Value v)
+    go none fine u s h = absurd s
+    go (some f) true u s h = (f u, refl)
+    go (some f) false u s h = absurd h

@@ -2,4 +2,5 @@ pub mod Answering
 pub mod Constants
 pub mod Ends
 pub mod Finite
+pub mod Starts
 pub mod Tags

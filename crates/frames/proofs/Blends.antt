@@ -2,12 +2,12 @@
 use Prim.Native.Nat.{ℕ, zero, suc, _+_, _-_, _*_, _^_, _<_, _≤_}
 use mathlib.Core.Path.{_≡_, refl, sym, ap, _∙_, subst}
 use mathlib.Core.Bool.{Bool, true, false, _||_, Bool·beq, true≢false}
-use native.Mathlib.Nat.{mul-zero, mul-one, mul-pos, mul-assoc, mul-right-comm, mul-lt-mul-of-pos-right, lt-of-mul-lt-mul-right, zero-lt-suc, le-of-eq, lt-of-lt-of-le, lt-of-le-of-lt, lt-irrefl, add-comm}
+use native.Mathlib.Nat.{mul-zero, mul-one, mul-pos, mul-assoc, mul-right-comm, mul-lt-mul-of-pos-right, lt-of-mul-lt-mul-right, zero-lt-suc, le-of-eq, lt-of-lt-of-le, lt-of-le-of-lt, add-comm}
 use native.Mathlib.Omega.{arith}
-use borrow.Author.Tests.{eq-eqb, eqb-true, le-ltb, lt-ltb, leb-true, leb-false}
+use borrow.Author.Tests.{eq-eqb, eqb-true, le-ltb, lt-ltb}
 use lib.IntN.{ℤ, pos, negsuc}
-use lib.Pow.{pow-pos, pow-lt, pow-add}
-use lib.Dec.{T, eqb, leb, eqb·suc-zero}
+use lib.Pow.{pow-pos, pow-add}
+use lib.Dec.{T, eqb, eqb·suc-zero}
 use lib.Ieee.{Float, nan, inf, fin, Format, binary32, emax, low, up, down, unlike, fits, round, sum, add, sub, mul, div, neg, lt, eq, ofBits}
 use lib.Ieee.Fits.{down-pos, up-pos}
 use lib.Ieee.Exact.{HasValue, round-exact}
@@ -16,7 +16,7 @@ use Rattle.math.specs.Rounded.{_⊕_, _⊖_, _⊗_, _⊘_, zeroF}
 use Rattle.math.specs.Range.{finiteOf}
 use Rattle.math.specs.Blend.{blendOf}
 use Rattle.math.proofs.Choice.{and-both}
-use Rattle.math.proofs.Fitting.{few-digits, in-reach, fine-grained}
+use Rattle.math.proofs.Fitting.{few-digits, in-reach, fine-grained, pow-at-most}
 
 -- a rounded 0
 zero-form : (s : Bool) → round binary32 s 0 1 ≡ fin s 0 (pos 0)
@@ -93,16 +93,9 @@ pub round-back : (f : Format) (t : Bool) (m : ℕ) (e : ℤ) → T (fits f (fin 
 round-back f t m (pos k) F =
     back-at f t m (pos k) F (k + low f) (mul-assoc (suc m) (2 ^ k) (2 ^ low f) ∙ (ap (λ (x : ℕ). suc m * x) (sym (pow-add 2 k (low f))) ∙ sym (mul-one (suc m * 2 ^ (k + low f)))))
 round-back f t m (negsuc k) F =
-    let l : suc k ≤ low f = not-above (suc k) (low f) (fine-grained f t m (negsuc k) F) in
+    let l : suc k ≤ low f = pow-at-most (suc k) (low f) (fine-grained f t m (negsuc k) F) in
     let j : low f - suc k + suc k ≡ low f = omega arith in
     back-at f t m (negsuc k) F (low f - suc k) (ap (λ (x : ℕ). x * 2 ^ low f) (mul-one (suc m)) ∙ (ap (λ (x : ℕ). suc m * 2 ^ x) (sym j) ∙ (ap (λ (x : ℕ). suc m * x) (pow-add 2 (low f - suc k) (suc k)) ∙ sym (mul-assoc (suc m) (2 ^ (low f - suc k)) (2 ^ suc k)))))
-  where
-    not-above : (i j : ℕ) → 2 ^ i ≤ 2 ^ j → i ≤ j
-    not-above i j h = go (leb i j) refl
-      where
-        go : (b : Bool) → leb i j ≡ b → i ≤ j
-        go true p = leb-true i j p
-        go false p = absurd (lt-irrefl (2 ^ j) (lt-of-lt-of-le (pow-lt (leb-false i j p)) h))
 
 -- a sum with nothing
 sum-less : (t s : Bool) (a b c : ℕ) → b ≡ 0 → 0 < a → sum binary32 t a s b c ≡ round binary32 t a c

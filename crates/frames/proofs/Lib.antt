@@ -9,7 +9,7 @@ pub mod Pushed
 pub mod Rising
 pub mod Samples
 mod Shifts
-mod Starts
 pub mod Tops
 pub mod Walks
 mod Zeros
+mod Zeroth

@@ -19,20 +19,21 @@ use Rattle.math.proofs.Sizes.{at-most-finite, sub-at-most}
 use Rattle.frames.specs.declared.frame.Keyframe.{Keyframe}
 use Rattle.frames.specs.Limits.{frameOf, framesOf, beforeAll, noFrame}
 use Rattle.frames.specs.Sampling.{passedOf, firstOf, lastOf, spanOf, betweenOf, sampleOf}
-use Rattle.frames.proofs.Rising.{each-fine, rising, time-fine, value-fine}
+use Rattle.frames.proofs.Rising.{each-fine, rising, time-fine}
 use Rattle.frames.proofs.Tops.{clock-finite, time-clock}
 use Rattle.frames.proofs.Picks.{passed-interval}
-use Rattle.frames.proofs.Samples.{span-finite, span-above, value-most, held-25, sample-first, sample-last}
+use Rattle.frames.proofs.Samples.{value-bound, span-finite, span-above, sample-first, sample-last}
 use Rattle.frames.proofs.Blends.{sub-self, zero-over, blend-zero}
-use Rattle.frames.proofs.Starts.{zero-clamped, eased-zero}
+use Rattle.frames.proofs.Zeroth.{zero-clamped, eased-zero}
+use Rattle.math.proofs.Bounded.{held-25}
 
 -- the value of a frame is finite, and so is what lies between two
 finite-value : (k : Keyframe) → frameOf k ≡ true → T (finiteOf (k .value))
-finite-value k f = at-most-finite 16777216 (k .value) (value-most (k .value) (value-fine k f))
+finite-value k f = at-most-finite 16777216 (k .value) (value-bound k f)
 
 finite-apart : (k l : Keyframe) → frameOf k ≡ true → frameOf l ≡ true → T (finiteOf (l .value ⊖ k .value))
 finite-apart k l f g =
-    at-most-finite 33554432 (l .value ⊖ k .value) (sub-at-most binary32 33554432 held-25 16777216 16777216 (l .value) (k .value) (lit≤ tt) (value-most (l .value) (value-fine l g)) (value-most (k .value) (value-fine k f)))
+    at-most-finite 33554432 (l .value ⊖ k .value) (sub-at-most binary32 33554432 held-25 16777216 16777216 (l .value) (k .value) (lit≤ tt) (value-bound l g) (value-bound k f))
 
 between-own : (k l : Keyframe) → frameOf k ≡ true → frameOf l ≡ true → T (fits binary32 (k .value)) → eq (betweenOf k l (k .time)) (k .value) ≡ true
 unfolding betweenOf

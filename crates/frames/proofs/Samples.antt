@@ -11,14 +11,14 @@ use lib.ListN.{length, getD}
 use lib.Ieee.{Float, binary32, lt, le, isNan, ofInt, ofBits}
 use lib.Ieee.Bits.{is-true}
 use Rattle.math.specs.Whole.{Is}
-use Rattle.math.specs.Rounded.{_⊖_, _⊘_, _⊗_, zeroF, topF}
+use Rattle.math.specs.Rounded.{_⊖_, _⊘_, zeroF}
 use Rattle.math.specs.Range.{finiteOf, valueOf, clamp01Of, maxZeroOf, Within, AtMost}
 use Rattle.math.proofs.Choice.{by-test}
 use Rattle.math.proofs.Order.{le-numbers, le-self, le-chain, lt-le, lt-le-chain, not-lt-of-le, le-of-not-lt, le-turned, lt-of-not-le, lt-not-eq}
 use Rattle.math.proofs.Numbers.{div-number}
 use Rattle.math.proofs.Upward.{max-zero-up}
-use Rattle.math.proofs.Sizes.{at-most-finite, at-most-more, size-at-most, sub-near, sub-at-most, mul-at-most, add-at-most}
-use Rattle.math.proofs.Bounded.{zero-most}
+use Rattle.math.proofs.Sizes.{at-most-finite, at-most-more, sub-near}
+use Rattle.math.proofs.Bounded.{zero-most, value-most, blend-most}
 use Rattle.math.proofs.Ranges.{clamped}
 use Rattle.math.proofs.Wholes.{whole-is}
 use Rattle.easing.specs.declared.kinds.Easing.{Easing}
@@ -30,7 +30,7 @@ use Rattle.frames.specs.declared.frame.Keyframe.{Keyframe}
 use Rattle.frames.specs.Limits.{frameOf, framesOf, beforeAll, noFrame}
 use Rattle.frames.specs.Sampling.{passedOf, firstOf, lastOf, cutOf, epsilon, spanOf, valueIn, easedOf, betweenOf, atOf, sampleOf}
 use Rattle.frames.proofs.Rising.{holds, each-fine, rising, time-fine, value-fine}
-use Rattle.frames.proofs.Tops.{Clock, top-is, clock-most, time-clock}
+use Rattle.frames.proofs.Tops.{Clock, clock-most, time-clock}
 use Rattle.frames.proofs.Walks.{lead-some, lead-below}
 
 epsilon-finite : T (finiteOf epsilon)
@@ -58,21 +58,8 @@ module _ (t x y : Float) (ct : Clock t) (cx : Clock x) (cy : Clock y) where
   pub local-within : Within (clamp01Of ((t ⊖ x) ⊘ spanOf (y ⊖ x)))
   local-within = clamped ((t ⊖ x) ⊘ spanOf (y ⊖ x)) (div-number binary32 (t ⊖ x) (spanOf (y ⊖ x)) (apart-finite t x ct cx) span-finite (lt-not-eq zeroF (spanOf (y ⊖ x)) span-above))
 
--- a blend of two values by an eased progress
-pub held-25 : Is (ofInt binary32 (pos 33554432)) 33554432
-unfolding ofInt
-held-25 = (refl, refl)
-
-held-52 : Is (ofInt binary32 (pos 4503599627370496)) 4503599627370496
-unfolding ofInt
-held-52 = (refl, refl)
-
-held-53 : Is (ofInt binary32 (pos 9007199254740992)) 9007199254740992
-unfolding ofInt
-held-53 = (refl, refl)
-
-pub value-most : (x : Float) → valueOf x ≡ true → AtMost 16777216 x
-value-most x h = size-at-most 16777216 x topF top-is (holds (valueOf x) h)
+pub value-bound : (k : Keyframe) → frameOf k ≡ true → AtMost 16777216 (k .value)
+value-bound k f = value-most (k .value) (holds (valueOf (k .value)) (value-fine k f))
 
 eased-most : (e : Easing) (p : Float) → AtMost 134217728 (easedOf e p)
 eased-most e p = go (applyOf e p) refl
@@ -85,11 +72,7 @@ between-most : (k l : Keyframe) (t : Float) → frameOf k ≡ true → frameOf l
 unfolding betweenOf
 between-most k l t f g =
     let c = easedOf (k .easing) (clamp01Of ((t ⊖ k .time) ⊘ spanOf (l .time ⊖ k .time))) in
-    let a = value-most (k .value) (value-fine k f) in
-    let b = value-most (l .value) (value-fine l g) in
-    let d = sub-at-most binary32 33554432 held-25 16777216 16777216 (l .value) (k .value) (lit≤ tt) b a in
-    let m = mul-at-most binary32 4503599627370496 held-52 33554432 134217728 (l .value ⊖ k .value) c (lit≤ tt) d (eased-most (k .easing) (clamp01Of ((t ⊖ k .time) ⊘ spanOf (l .time ⊖ k .time)))) in
-    add-at-most binary32 9007199254740992 held-53 16777216 4503599627370496 (k .value) ((l .value ⊖ k .value) ⊗ c) (lit≤ tt) a m
+    blend-most (k .value) (l .value) c (value-bound k f) (value-bound l g) (eased-most (k .easing) (clamp01Of ((t ⊖ k .time) ⊘ spanOf (l .time ⊖ k .time))))
 
 -- the time that is sampled: from 0 to the last time, or that time
 module _ (l : List Keyframe) (fine : framesOf l ≡ true) (some : 0 < length l) where
@@ -137,8 +120,8 @@ module _ (l : List Keyframe) (fine : framesOf l ≡ true) (some : 0 < length l) 
   unfolding sampleOf
   sample-most secs =
       let t = cutOf (maxZeroOf secs) (lastOf l .time) in
-      let first : AtMost 9007199254740992 (firstOf l .value) = at-most-more 16777216 9007199254740992 (firstOf l .value) (lit≤ tt) (value-most (firstOf l .value) (value-fine (firstOf l) (frame-fine 0 some))) in
-      let last : AtMost 9007199254740992 (lastOf l .value) = at-most-more 16777216 9007199254740992 (lastOf l .value) (lit≤ tt) (value-most (lastOf l .value) (value-fine (lastOf l) (frame-fine (length l - 1) last-place))) in
+      let first : AtMost 9007199254740992 (firstOf l .value) = at-most-more 16777216 9007199254740992 (firstOf l .value) (lit≤ tt) (value-bound (firstOf l) (frame-fine 0 some)) in
+      let last : AtMost 9007199254740992 (lastOf l .value) = at-most-more 16777216 9007199254740992 (lastOf l .value) (lit≤ tt) (value-bound (lastOf l) (frame-fine (length l - 1) last-place)) in
       by-test (AtMost 9007199254740992) (eqb (length l) 1) (firstOf l .value) (atOf l t) (λ _. first)
       (λ _.
       by-test (AtMost 9007199254740992) (le t (firstOf l .time)) (firstOf l .value) _ (λ _. first)

@@ -1,44 +1,32 @@
 -- Floats from 0 to 16,777,216: the times of frames, and what stays among them. Assumes nothing.
-use mathlib.Core.Path.{_≡_, refl, subst⁻¹}
+use mathlib.Core.Path.{_≡_, subst⁻¹}
 use mathlib.Core.Bool.{true, false}
 use Prim.Native.Nat.{ℕ, _*_, _≤_}
 use native.Mathlib.Omega.{arith}
 use lib.Dec.{T, lit≤, le→leb}
 use lib.Ieee.{Float, nan, inf, fin, binary32, up, down, lt, le, eq, ofBits}
 use lib.Ieee.Bits.{is-true}
-use Rattle.math.specs.Whole.{Is}
 use Rattle.math.specs.Rounded.{_⊗_, zeroF, topF}
 use Rattle.math.specs.Range.{finiteOf, betweenOf, Within, AtMost}
 use Rattle.math.proofs.Choice.{and-both}
 use Rattle.math.proofs.Order.{le-sizes}
 use Rattle.math.proofs.Upward.{Up, mul-up}
 use Rattle.math.proofs.Sizes.{up-to, at-most-finite}
-use Rattle.math.proofs.Bounded.{shrunk}
+use Rattle.math.proofs.Bounded.{shrunk, top-is}
 use Rattle.math.proofs.Ranges.{within-at-most}
-use Rattle.math.proofs.Wholes.{fraction-le}
 use Rattle.frames.specs.Limits.{plusOf, timeOf}
 use Rattle.frames.proofs.Rising.{holds, time-top}
+use Rattle.math.proofs.Beneath.{at-most-le}
 
 -- from 0 to 16,777,216
 abbrev pub Clock : Float → Type 0
 Clock x = Up x × T (le x topF)
-
-pub top-is : Is topF 16777216
-unfolding ofBits
-top-is = (refl, refl)
 
 pub clock-most : (x : Float) → Clock x → AtMost 16777216 x
 clock-most x c = up-to 16777216 x topF top-is (c .0) (c .1)
 
 pub clock-finite : (x : Float) → Clock x → T (finiteOf x)
 clock-finite x c = at-most-finite 16777216 x (clock-most x c)
-
-most-top : (x : Float) → Up x → AtMost 16777216 x → T (le x topF)
-unfolding le lt eq ofBits
-most-top nan u h = absurd h
-most-top (inf s) u h = absurd h
-most-top (fin false m e) u h = subst⁻¹ T (fraction-le topF 16777216 m e top-is) (le→leb (m * up e) (16777216 * down e) h)
-most-top (fin true m e) u h = subst⁻¹ T (le-sizes true false (m * up e * 1) (16777216 * 1 * down e)) tt
 
 -- as a test
 pub clock-test : (x : Float) → Clock x → betweenOf zeroF topF x ≡ true
@@ -69,4 +57,4 @@ time-clock x h = (plus-up x (and-both (plusOf x) (le x topF) h .0) (time-top x h
 pub shrunk-clock : (x p : Float) → Clock x → Within p → Clock (x ⊗ p)
 shrunk-clock x p c w =
     let u = mul-up binary32 x p (clock-finite x c) (at-most-finite 1 p (within-at-most p w)) (c .0) (w .0) in
-    (u, most-top (x ⊗ p) u (shrunk 16777216 (lit≤ tt) x p (clock-most x c) (within-at-most p w)))
+    (u, at-most-le 16777216 (x ⊗ p) topF top-is (shrunk 16777216 (lit≤ tt) x p (clock-most x c) (within-at-most p w)))

@@ -1,7 +1,6 @@
 -- The cases of a push and of a change of mode. Assumes nothing.
-use mathlib.Core.Path.{_≡_, sym, _∙_}
-use mathlib.Core.Bool.{Bool, true, false, not}
-use borrow.Author.Tests.{not-true, not-false}
+use mathlib.Core.Path.{_≡_}
+use mathlib.Core.Bool.{Bool, true, false}
 use lib.Ieee.{Float}
 use Rattle.refusal.specs.declared.Refusal.the-variants.{RecordBreaksLimit, EasingNotSupplied, EasingParameter, TrackLimit}
 use Rattle.easing.specs.declared.kinds.Easing.{Easing}
@@ -13,13 +12,6 @@ use Rattle.frames.specs.Pushing.{putOf}
 use Rattle.keyframe.specs.declared.types.Track.{Track}
 use Rattle.keyframe.specs.Limits.{baseOf, modeFits, withinOf}
 use Rattle.keyframe.specs.Pushing.{refused, changed, storedOf, takesOf, withMode, placedOf, pushOf, loopingOf}
-
--- a test `!b` of a call's answer b
-pub failed : (b x : Bool) → b ≡ x → not b ≡ true → x ≡ false
-failed b x e h = sym e ∙ not-true b h
-
-pub passed : (b x : Bool) → b ≡ x → not b ≡ false → x ≡ true
-passed b x e h = sym e ∙ not-false b h
 
 -- of a supplied kind the parameters are what is left to fit
 pub fits-params : (e : Easing) (b : Bool) → suppliedOf e ≡ true → fitsRecordOf e ≡ b → params.withinOf (params.paramsOf e) ≡ b

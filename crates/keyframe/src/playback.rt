@@ -1,7 +1,6 @@
 // Where a track stands.
 ghost use mathlib.Core.Path.{_≡_};
 ghost use Prim.Native.Nat.{_≤_};
-ghost use Rattle.keyframe.specs.Limits.{endOf, baseOf};
 ghost use Rattle.keyframe.specs.Playback.{bounceOf, phaseOf, activeOf, activeTimeOf, durationIn, playbackOf, playbackIn, ratioOf, alongOf, progressOf, doneOf, completeOf};
 use crate::limits::end_of;
 use crate::limits::last_time;

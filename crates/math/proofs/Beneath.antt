@@ -2,12 +2,11 @@
 use mathlib.Core.Path.{_≡_, refl, sym, ap, _∙_, subst⁻¹}
 use mathlib.Core.Bool.{Bool, true, false, true≢false}
 use Prim.Native.Nat.{ℕ, zero, suc, _+_, _-_, _*_, _^_, _<_, _≤_}
-use native.Mathlib.Nat.{mul-one, mul-assoc, mul-comm, mul-pos, mul-le-mul-right, zero-lt-suc, lt-of-lt-of-le, lt-irrefl, le-refl}
+use native.Mathlib.Nat.{mul-one, mul-assoc, mul-comm, mul-pos, mul-le-mul-right, zero-lt-suc, lt-of-lt-of-le, le-refl}
 use native.Mathlib.Omega.{arith}
-use borrow.Author.Tests.{leb-true, leb-false}
 use lib.IntN.{ℤ, pos, negsuc}
-use lib.Pow.{pow-pos, pow-add, pow-mono, pow-lt, shl-lt}
-use lib.Dec.{T, leb, le→leb}
+use lib.Pow.{pow-pos, pow-add, pow-mono, shl-lt}
+use lib.Dec.{T, le→leb}
 use lib.Ieee.{Float, nan, inf, fin, Format, binary32, prec, emax, low, up, down, unlike, round, mul, lt, le, eq, fits, ofInt, ofBits}
 use lib.Ieee.Fits.{reach, down-pos}
 use lib.Ieee.Exact.{HasValue, round-exact}
@@ -16,7 +15,7 @@ use lib.Ieee.Scale.{round-same}
 use Rattle.math.specs.Whole.{Is}
 use Rattle.math.specs.Rounded.{zeroF, _⊗_}
 use Rattle.math.specs.Range.{finiteOf, Within, AtMost}
-use Rattle.math.proofs.Fitting.{few-digits, fine-grained, held}
+use Rattle.math.proofs.Fitting.{few-digits, fine-grained, held, pow-at-most}
 use Rattle.math.proofs.Order.{le-sizes, le-chain, times-none}
 use Rattle.math.proofs.Upward.{Up, up-none}
 use Rattle.math.proofs.Wholes.{fraction-le}
@@ -34,13 +33,6 @@ at-most-le n (fin true m e) (fin false k d) v h = subst⁻¹ T (le-sizes true fa
 
 -- a value of the format rounds to itself
 module _ (f : Format) where
-  fine-enough : (k : ℕ) → 2 ^ suc k ≤ 2 ^ low f → suc k ≤ low f
-  fine-enough k h = go (leb (suc k) (low f)) refl
-    where
-      go : (b : Bool) → leb (suc k) (low f) ≡ b → suc k ≤ low f
-      go true e = leb-true (suc k) (low f) e
-      go false e = absurd (lt-irrefl (2 ^ low f) (lt-of-lt-of-le (pow-lt (leb-false (suc k) (low f) e)) h))
-
   held-again : (m : ℕ) (e : ℤ) → T (fits f (fin false m e)) → HasValue (round f false (m * up e) (down e)) false (m * up e) (down e)
   unfolding ofInt
   held-again m (pos k) t = subst⁻¹ (λ (x : Float). HasValue x false (m * 2 ^ k) 1) (held f m k t) (refl, refl)
@@ -50,7 +42,7 @@ module _ (f : Format) where
       none a b = omega arith
   held-again (suc m) (negsuc k) t =
       let j = low f - suc k in
-      let l : suc k ≤ low f = fine-enough k (fine-grained f false m (negsuc k) t) in
+      let l : suc k ≤ low f = pow-at-most (suc k) (low f) (fine-grained f false m (negsuc k) t) in
       let a : j + suc k ≡ low f = omega arith in
       let b : suc (emax f) + j ≤ low f + suc (emax f) = omega arith in
       let r : suc m < 2 ^ suc (emax f) = lt-of-lt-of-le (few-digits f false (suc m) (negsuc k) t) (pow-mono (reach f)) in

@@ -1,7 +1,8 @@
--- Tests: what holds of both values of a test holds of what it picks; a conjunction that passes, and one that fails. Assumes nothing.
-use mathlib.Core.Path.{_≡_, refl}
-use mathlib.Core.Bool.{Bool, true, false, _&&_, cond, false≢true}
+-- Tests: what holds of both values of a test holds of what it picks; a conjunction that passes, and one that fails; a test turned round. Assumes nothing.
+use mathlib.Core.Path.{_≡_, refl, sym, _∙_}
+use mathlib.Core.Bool.{Bool, true, false, not, _&&_, cond, false≢true}
 use mathlib.Core.Logic.{_⊎_, inl, inr}
+use borrow.Author.Tests.{not-true, not-false}
 
 pub by-test : {A : Type 0} (C : A → Type 0) (b : Bool) (x y : A) → (b ≡ true → C x) → (b ≡ false → C y) → C (cond b x y)
 by-test C true x y h k = h refl
@@ -14,3 +15,10 @@ and-both false b h = absurd (false≢true h)
 pub and-fails : (a b : Bool) → a && b ≡ false → (a ≡ false) ⊎ (b ≡ false)
 and-fails true b h = inr h
 and-fails false b h = inl refl
+
+-- a test `!b` of a call's answer b, which is w
+pub fails : (b w : Bool) → b ≡ w → not b ≡ true → w ≡ false
+fails b w e h = sym e ∙ not-true b h
+
+pub passes : (b w : Bool) → b ≡ w → not b ≡ false → w ≡ true
+passes b w e h = sym e ∙ not-false b h

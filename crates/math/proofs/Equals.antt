@@ -1,6 +1,6 @@
 -- Floats that compare equal to a whole number: a zero of either sign is 0, and any other is that number with its sign clear. Assumes nothing.
 use mathlib.Core.Path.{_≡_, refl, sym, ap, _∙_, subst, subst⁻¹}
-use mathlib.Core.Bool.{Bool, true, false, _||_, true≢false}
+use mathlib.Core.Bool.{true, false, true≢false}
 use mathlib.Core.Logic.{⊎-elim}
 use Prim.Native.Nat.{ℕ, _*_, _≤_, _<_}
 use native.Mathlib.Nat.{eq-zero-or-pos, eq-of-mul-eq-mul-right, lt-irrefl, mul-one, mul-pos, mul-right-comm}
@@ -13,7 +13,7 @@ use Rattle.math.specs.Rounded.{zeroF}
 use Rattle.math.specs.Range.{maxZeroOf}
 use Rattle.math.specs.Whole.{Is}
 use Rattle.math.proofs.Choice.{by-test}
-use Rattle.math.proofs.Order.{not-lt-of-le, le-chain}
+use Rattle.math.proofs.Order.{not-lt-of-le, le-chain, or-right}
 use Rattle.math.proofs.Wholes.{zero-is, lt-is, le-is}
 
 -- from a / (E * D) = b / (E * D), where b / D is n, to a
@@ -46,11 +46,7 @@ equal-is (fin true m e) (fin false k d) n v l h =
 
 pub equal-le : (x y : Float) → T (eq x y) → T (le x y)
 unfolding le
-equal-le x y h = go (lt x y) (eq x y) h
-  where
-    go : (a b : Bool) → T b → T (a || b)
-    go true b h = tt
-    go false b h = h
+equal-le x y h = or-right (lt x y) (eq x y) h
 
 -- what equals a z that is n is above 0 exactly where n is
 pub equal-above : (x z : Float) (n : ℕ) → Is z n → T (eq x z) → lt zeroF x ≡ ltb 0 n

@@ -2,10 +2,10 @@
 use mathlib.Core.Path.{_≡_, refl, sym, ap, _∙_}
 use mathlib.Core.Bool.{Bool, false}
 use Prim.Native.Nat.{ℕ, zero, suc, _+_, _*_, _^_, _<_, _≤_}
-use native.Mathlib.Nat.{zero-mul, mul-one, one-mul, mul-assoc, mul-pos, zero-lt-suc, le-of-eq, le-trans, lt-of-lt-of-le, lt-of-le-of-lt, lt-irrefl, le-mul-of-pos-right, pow-succ', add-comm}
+use native.Mathlib.Nat.{le-of-suc-le-suc, lt-of-not-le, zero-mul, mul-one, one-mul, mul-assoc, mul-pos, zero-lt-suc, le-of-eq, le-trans, lt-of-lt-of-le, lt-of-le-of-lt, lt-irrefl, le-mul-of-pos-right, pow-succ', add-comm}
 use native.Mathlib.Omega.{arith}
 use lib.IntN.{ℤ, pos, negsuc}
-use lib.Pow.{pow-pos, pow-add, shl-lt}
+use lib.Pow.{pow-pos, pow-add, pow-lt, shl-lt}
 use lib.Dec.{T, leb→le, ltb→lt, eqb→eq}
 use lib.Ieee.{fin, Format, prec, emax, low, up, down, fits, ofInt}
 use lib.Ieee.Fits.{up-pos, and-l, and-r, ofInt-fits}
@@ -63,3 +63,6 @@ pub no-fraction : (f : Format) (s : Bool) (m : ℕ) (e : ℤ) → T (fits f (fin
 no-fraction f s m (pos k) t h = (k, refl)
 no-fraction f s m (negsuc k) t h =
     absurd (lt-irrefl m (lt-of-lt-of-le (few-digits f s m (negsuc k) t) (le-trans (le-mul-of-pos-right (2 ^ prec f) (pow-pos (suc k))) (le-trans h (le-of-eq (mul-one m))))))
+
+pub pow-at-most : (i p : ℕ) → 2 ^ i ≤ 2 ^ p → i ≤ p
+pow-at-most i p h = le-of-suc-le-suc (lt-of-not-le (λ (g : suc p ≤ i). lt-irrefl (2 ^ p) (lt-of-lt-of-le (pow-lt g) h)))

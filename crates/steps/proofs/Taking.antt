@@ -2,8 +2,8 @@
 use Prim.Native.Nat.{ℕ, _≤_, _<_}
 use mathlib.Core.Path.{_≡_, refl, sym, ap, _∙_, subst, subst⁻¹}
 use mathlib.Core.Bool.{Bool, true, false, _&&_, and-comm}
-use borrow.Author.Tests.{lt-leb, le-leb}
-use lib.Dec.{T, leb, le→leb}
+use borrow.Author.Tests.{lt-leb}
+use lib.Dec.{le→leb}
 use lib.Ieee.{Float}
 use lib.Ieee.Bits.{is-true}
 use Rattle.refusal.specs.declared.Refusal.the-variants.{RecordBreaksLimit}
@@ -12,7 +12,7 @@ use Rattle.easing.specs.declared.answers.Eased.the-variants as eased
 use Rattle.tween.specs.declared.record.Tween.{Tween}
 use Rattle.tween.specs.declared.answers.Updated.{Updated}
 use Rattle.tween.specs.declared.answers.Updated.the-variants.{Ran, Refused}
-use Rattle.tween.specs.Limits.{settingsWithin, clockWithin, countWithin, withinOf}
+use Rattle.tween.specs.Limits.{settingsWithin, clockWithin, withinOf}
 use Rattle.tween.specs.Calls.{valueOf}
 use Rattle.tween.specs.Update.{updateOf}
 use Rattle.tween.proofs.KeptByUpdate.{update-within}

@@ -1,22 +1,22 @@
 -- The limits on a tween's numbers, one by one, and how they make up a tween within its limits. Assumes nothing.
 use mathlib.Core.Path.{refl, ap, subst}
 use mathlib.Core.Bool.{Bool, _&&_, and-comm}
-use lib.IntN.{pos}
 use lib.Dec.{T}
-use lib.Ieee.{Float, binary32, round, le, ofInt, ofBits}
+use lib.Ieee.{Float, le, ofBits}
 use lib.Ieee.Fits.{and-i, and-l, and-r}
 use Rattle.math.specs.Rounded.{f32, zeroF, topF}
 use Rattle.math.specs.Range.{valueOf, betweenOf, AtMost}
 use Rattle.math.specs.Whole.{Is}
 use Rattle.math.proofs.Order.{le-chain}
 use Rattle.math.proofs.Upward.{Up}
-use Rattle.math.proofs.Sizes.{up-to, size-at-most}
+use Rattle.math.proofs.Sizes.{up-to}
 use Rattle.loop_mode.specs.Passes.{withinOf as modeWithin}
 use Rattle.easing.specs.Apply.{fitsRecordOf}
 use Rattle.tween.specs.declared.record.Tween.{Tween}
 use Rattle.tween.specs.declared.record.TweenSnapshot.{TweenSnapshot}
 use Rattle.tween.specs.Parts.{withEnds, put}
 use Rattle.tween.specs.Limits.{settingsWithin, idleBelow, clockWithin, countWithin, withinOf}
+use Rattle.math.proofs.Bounded.{top-is, value-most}
 
 -- 33,554,432, the limit of delay_elapsed
 abbrev pub longest : Float
@@ -25,14 +25,6 @@ longest = f32 0x4c00_0000
 pub longest-is : Is longest 33554432
 unfolding ofBits
 longest-is = (refl, refl)
-
-pub longest-held : Is (ofInt binary32 (pos 33554432)) 33554432
-unfolding ofInt round
-longest-held = (refl, refl)
-
-pub top-is : Is topF 16777216
-unfolding ofBits
-top-is = (refl, refl)
 
 -- 1,024, the limit of the scale
 fastest-is : Is (f32 0x4480_0000) 1024
@@ -66,8 +58,8 @@ limits t h = go (search (and-l, and-r)) (search (and-l, and-r))
     go a b = unfold settingsWithin clockWithin in
         record {
           settings = a;
-          start-most = size-at-most 16777216 (t .start) topF top-is (search (and-l, and-r) depth 8);
-          end-most = size-at-most 16777216 (t .end) topF top-is (search (and-l, and-r) depth 8);
+          start-most = value-most (t .start) (search (and-l, and-r) depth 8);
+          end-most = value-most (t .end) (search (and-l, and-r) depth 8);
           duration-up = search (and-l, and-r);
           duration-most = up-to 16777216 (t .duration) topF top-is (search (and-l, and-r) depth 7) (search (and-l, and-r) depth 7);
           delay-up = search (and-l, and-r);

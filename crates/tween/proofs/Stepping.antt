@@ -8,13 +8,12 @@ use mathlib.Core.Bool.{Bool, true, false, not}
 use borrow.Author.Tests.{leb-true}
 use lib.Dec.{leb}
 use lib.Ieee.{Float}
-use Rattle.math.proofs.Choice.{by-test}
+use Rattle.math.proofs.Choice.{by-test, fails, passes}
 use Rattle.loop_mode.specs.declared.Loop.{Loop}
 use Rattle.loop_mode.specs.declared.Loop.the-variants.{Once, Times, Forever, PingPong, PingPongTimes}
 use Rattle.loop_mode.specs.Passes.{passesOf}
 use Rattle.tween.specs.declared.fold.Folding.{Folding}
 use Rattle.tween.specs.Folds.{foldOnce, due, foldsOf}
-use Rattle.tween.proofs.Told.{fails, passes}
 
 pub folds-none : (b : Bool) (l : Loop) (d : Float) (p : Folding) → foldsOf 0 b l d p ≡ p
 unfolding foldsOf

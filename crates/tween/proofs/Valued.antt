@@ -1,62 +1,28 @@
 -- A tween within its limits has a progress from 0 to 1, an eased progress and a value, both finite: it never meets a refusal of its easing. Assumes nothing.
 use mathlib.Core.Path.{_≡_, refl, subst⁻¹}
-use mathlib.Core.Bool.{Bool, true, false, cond, false≢true}
-use mathlib.Core.Option.{Option, none, some}
-use lib.IntN.{pos}
+use mathlib.Core.Bool.{true, cond}
 use lib.Dec.{T, lit≤}
-use lib.Ieee.{Float, binary32, round, eq, isNan, ofInt}
+use lib.Ieee.{Float, binary32, eq}
 use lib.Ieee.Bits.{is-true}
-use lib.Ieee.Fits.{and-l, and-r}
-use Rattle.math.specs.Rounded.{zeroF, oneF, _⊖_, _⊗_, _⊘_}
+use Rattle.math.specs.Rounded.{zeroF, oneF, _⊘_}
 use Rattle.math.specs.Range.{clamp01Of, Within, AtMost}
-use Rattle.math.specs.Whole.{Is}
 use Rattle.math.specs.Blend.{blendOf}
 use Rattle.math.proofs.Choice.{by-test}
 use Rattle.math.proofs.Order.{le-numbers}
-use Rattle.math.proofs.Sizes.{at-most-finite, at-most-more, add-at-most, sub-at-most, mul-at-most}
+use Rattle.math.proofs.Sizes.{at-most-finite, at-most-more}
 use Rattle.math.proofs.Numbers.{div-number}
-use Rattle.math.proofs.Bounded.{one-within}
+use Rattle.math.proofs.Bounded.{one-within, blend-most}
 use Rattle.math.proofs.Ranges.{clamped}
 use Rattle.units.specs.declared.InProgress.the-variants as progress
-use Rattle.easing.specs.declared.kinds.Easing.{Easing}
 use Rattle.easing.specs.declared.answers.Eased.{Eased}
 use Rattle.easing.specs.declared.answers.Eased.the-variants.{Value}
-use Rattle.easing.specs.Kinds.{curveOf, isSome, suppliedOf}
-use Rattle.easing.specs.Params.{paramsOf, withinOf as paramsWithin}
-use Rattle.easing.specs.Apply.{easedAt, applyOf, fitsRecordOf}
+use Rattle.easing.specs.Apply.{applyOf}
 use Rattle.easing.proofs.Finite.{apply-bounded}
 use Rattle.tween.specs.declared.record.Tween.{Tween}
 use Rattle.tween.specs.Limits.{withinOf}
 use Rattle.tween.specs.Calls.{progressIn, progressOf, easedProgressOf, blendIn, valueOf}
-use Rattle.tween.proofs.Bounds.{Limits, limits, longest-held}
-
--- an easing that fits a record answers at any progress that is a number
-eased-at : (c : Option (Float → Float)) (fine : Bool) (u : Float) → isSome c ≡ true → fine ≡ true → (v : Float) × (easedAt c fine u ≡ Value v)
-eased-at none fine u s h = absurd (false≢true s)
-eased-at (some f) true u s h = (f u, refl)
-eased-at (some f) false u s h = absurd (false≢true h)
-
-fits-answers : (e : Easing) (p : Float) → T (fitsRecordOf e) → isNan p ≡ false → (v : Float) × (applyOf e p ≡ Value v)
-unfolding fitsRecordOf suppliedOf applyOf
-fits-answers e p f n =
-    let supplied = is-true (isSome (curveOf e)) (and-l (isSome (curveOf e)) (paramsWithin (paramsOf e)) f) in
-    let fine = is-true (paramsWithin (paramsOf e)) (and-r (isSome (curveOf e)) (paramsWithin (paramsOf e)) f) in
-    let k = eased-at (curveOf e) (paramsWithin (paramsOf e)) (clamp01Of p) supplied fine in
-    (k .0, rw n (k .1))
-
--- 2 ^ 52 and 2 ^ 53 are f32s, as 2 ^ 25 is
-held-52 : Is (ofInt binary32 (pos 4503599627370496)) 4503599627370496
-unfolding ofInt round
-held-52 = (refl, refl)
-
-held-53 : Is (ofInt binary32 (pos 9007199254740992)) 9007199254740992
-unfolding ofInt round
-held-53 = (refl, refl)
-
-blend-most : (a b c : Float) → AtMost 16777216 a → AtMost 16777216 b → AtMost 134217728 c → AtMost 9007199254740992 (blendOf a b c)
-blend-most a b c h k m =
-    add-at-most binary32 9007199254740992 held-53 16777216 4503599627370496 a ((b ⊖ a) ⊗ c) (lit≤ tt) h
-    (mul-at-most binary32 4503599627370496 held-52 33554432 134217728 (b ⊖ a) c (lit≤ tt) (sub-at-most binary32 33554432 longest-held 16777216 16777216 b a (lit≤ tt) k h) m)
+use Rattle.tween.proofs.Bounds.{Limits, limits}
+use Rattle.easing.proofs.Answering.{fits-answers}
 
 -- a value, at most 2 ^ 53 in size
 abbrev Finite : Eased → Type 0

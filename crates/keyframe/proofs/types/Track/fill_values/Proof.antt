@@ -4,15 +4,15 @@ use mathlib.Core.Path.{_≡_, refl, _∙_}
 use mathlib.Core.Bool.{true}
 use native.Mathlib.Omega.{arith}
 use denote.Ref.{now}
+use Rattle.math.proofs.Choice.{fails, passes}
 use Rattle.keyframe.specs.Limits.{withinOf}
 use Rattle.keyframe.proofs.Records.{few-frames, frames-fine}
-use Rattle.keyframe.proofs.Changes.{failed, passed}
 use Rattle.keyframe.proofs.Batches.{number-broken, number-none, number-short, number-taken, refused, accepted}
 use Rattle.keyframe.proofs.types.Track.fill_values.Statement.{statement}
 use Rattle.keyframe.proofs.types.Track.fill_values.Tie as tie
 
 within : (c : tie.Else1) → withinOf (c .before .before .before .before .args .self) ≡ true
-within c = passed _ _ (c .before .is-within-limits .ensures) (c .if1 .left)
+within c = passes _ _ (c .before .is-within-limits .ensures) (c .if1 .left)
 
 pub fill-values-spec : {M : Type 1} → statement M
 fill-values-spec =
@@ -22,7 +22,7 @@ fill-values-spec =
     (λ c κs. search needs)
     (λ c.
     let a = c .before .before .before .before .before .args in
-    let e = number-broken (a .self) (now (a .times)) (now (a .out)) (failed _ _ (c .before .before .is-within-limits .ensures) (c .before .if1 .taken)) in
+    let e = number-broken (a .self) (now (a .times)) (now (a .out)) (fails _ _ (c .before .before .is-within-limits .ensures) (c .before .if1 .taken)) in
     rw (c .number .ensures) (refused _ _ _ _ e refl))
     (λ c κs. search needs)
     (λ c.

@@ -1,8 +1,8 @@
 -- `reset` meets its contract. Assumes nothing.
 use borrow.Author.Needs.{needs}
 use lib.Ieee.{ofBits}
+use Rattle.math.proofs.Choice.{fails, passes}
 use Rattle.keyframe.specs.Stepping.{resetOf}
-use Rattle.keyframe.proofs.Changes.{failed, passed}
 use Rattle.keyframe.proofs.types.Track.reset.Statement.{statement}
 use Rattle.keyframe.proofs.types.Track.reset.Tie as tie
 
@@ -13,6 +13,6 @@ reset-spec =
     (tie.spec
     (λ c κs. search needs)
     (λ c κs. search needs)
-    (λ c. rw (failed _ _ (c .before .before .is-within-limits .ensures) (c .before .if1 .taken)) (c .refuse .ensures))
+    (λ c. rw (fails _ _ (c .before .before .is-within-limits .ensures) (c .before .if1 .taken)) (c .refuse .ensures))
     (λ c κs. search needs)
-    (λ c. rw (passed _ _ (c .before .before .is-within-limits .ensures) (c .before .if1 .left), c .moved .ensures)))
+    (λ c. rw (passes _ _ (c .before .before .is-within-limits .ensures) (c .before .if1 .left), c .moved .ensures)))

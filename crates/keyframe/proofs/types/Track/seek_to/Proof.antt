@@ -2,15 +2,15 @@
 use borrow.Author.Needs.{needs}
 use mathlib.Core.Path.{_≡_, sym, _∙_}
 use mathlib.Core.Bool.{true}
+use Rattle.math.proofs.Choice.{fails, passes}
 use Rattle.keyframe.specs.Limits.{withinOf}
 use Rattle.keyframe.proofs.Records.{few-frames}
-use Rattle.keyframe.proofs.Changes.{failed, passed}
 use Rattle.keyframe.proofs.Moves.{seek-broken, seek-nan, seek-done}
 use Rattle.keyframe.proofs.types.Track.seek_to.Statement.{statement}
 use Rattle.keyframe.proofs.types.Track.seek_to.Tie as tie
 
 within : (c : tie.Else1) → withinOf (c .before .before .args .self) ≡ true
-within c = passed _ _ (c .before .is-within-limits .ensures) (c .if1 .left)
+within c = passes _ _ (c .before .is-within-limits .ensures) (c .if1 .left)
 
 pub seek-to-spec : {M : Type 1} → statement M
 seek-to-spec =
@@ -20,7 +20,7 @@ seek-to-spec =
     (λ c κs. search needs)
     (λ c.
     let b = c .before .before in
-    c .refuse .ensures ∙ seek-broken (b .before .args .self) (b .before .args .progress .0) (failed _ _ (b .is-within-limits .ensures) (c .before .if1 .taken)))
+    c .refuse .ensures ∙ seek-broken (b .before .args .self) (b .before .args .progress .0) (fails _ _ (b .is-within-limits .ensures) (c .before .if1 .taken)))
     (λ c κs. search needs)
     (λ c κs. search needs)
     (λ c.

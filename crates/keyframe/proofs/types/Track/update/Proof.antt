@@ -3,18 +3,18 @@ use borrow.Author.Needs.{needs}
 use mathlib.Core.Path.{_≡_, sym, _∙_}
 use mathlib.Core.Bool.{true, false}
 use lib.Ieee.{ofBits}
+use Rattle.math.proofs.Choice.{fails, passes}
 use Rattle.math.specs.Range.{maxZeroOf}
 use Rattle.keyframe.specs.Limits.{withinOf}
 use Rattle.keyframe.specs.Playback.{doneOf}
 use Rattle.keyframe.specs.Stepping.{lostOf}
 use Rattle.keyframe.proofs.Records.{few-frames}
-use Rattle.keyframe.proofs.Changes.{failed, passed}
 use Rattle.keyframe.proofs.Moves.{step-broken, step-long, step-done, step-lost, step-taken}
 use Rattle.keyframe.proofs.types.Track.update.Statement.{statement}
 use Rattle.keyframe.proofs.types.Track.update.Tie as tie
 
 within : (c : tie.Else1) → withinOf (c .before .before .args .self) ≡ true
-within c = passed _ _ (c .before .is-within-limits .ensures) (c .if1 .left)
+within c = passes _ _ (c .before .is-within-limits .ensures) (c .if1 .left)
 
 going : (c : tie.Else3) → doneOf (c .before .before .before .before .before .args .self) ≡ false
 going c = sym (c .before .is-done .ensures) ∙ c .if3 .left
@@ -28,7 +28,7 @@ update-spec =
     (λ c κs. search needs)
     (λ c.
     let b = c .before .before in
-    c .halt .ensures ∙ step-broken (b .before .args .self) (b .before .args .dt) (failed _ _ (b .is-within-limits .ensures) (c .before .if1 .taken)))
+    c .halt .ensures ∙ step-broken (b .before .args .self) (b .before .args .dt) (fails _ _ (b .is-within-limits .ensures) (c .before .if1 .taken)))
     (λ c κs. search needs)
     (λ c.
     let b = c .before .before in

@@ -4,15 +4,15 @@ use mathlib.Core.Path.{_≡_}
 use mathlib.Core.Bool.{true}
 use native.Mathlib.Omega.{arith}
 use borrow.Author.Tests.{lt-ltb, le-ltb}
+use Rattle.math.proofs.Choice.{fails, passes}
 use Rattle.keyframe.specs.Limits.{withinOf}
 use Rattle.keyframe.specs.Sampling.{valueAtOf}
 use Rattle.keyframe.proofs.Records.{few-frames, frames-fine}
-use Rattle.keyframe.proofs.Changes.{failed, passed}
 use Rattle.keyframe.proofs.types.Track.value_at.Statement.{statement}
 use Rattle.keyframe.proofs.types.Track.value_at.Tie as tie
 
 within : (c : tie.Else1) → withinOf (c .before .before .args .self) ≡ true
-within c = passed _ _ (c .before .is-within-limits .ensures) (c .if1 .left)
+within c = passes _ _ (c .before .is-within-limits .ensures) (c .if1 .left)
 
 pub value-at-spec : {M : Type 1} → statement M
 unfolding valueAtOf
@@ -20,7 +20,7 @@ value-at-spec =
     tie.close
     (tie.spec
     (λ c κs. search needs)
-    (λ c. rw (failed _ _ (c .before .is-within-limits .ensures) (c .if1 .taken)))
+    (λ c. rw (fails _ _ (c .before .is-within-limits .ensures) (c .if1 .taken)))
     (λ c. rw (within (c .before .before), le-ltb 0 (c .before .before .before .before .args .self .count) (omega (arith, c .if2 .taken))))
     (λ c κs.
     let w = within (c .before .before .before) in

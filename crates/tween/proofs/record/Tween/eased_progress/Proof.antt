@@ -1,7 +1,7 @@
 -- `eased_progress` meets its contract, by what its callees ensure. Assumes nothing.
 use borrow.Author.Needs.{needs}
+use Rattle.math.proofs.Choice.{fails, passes}
 use Rattle.tween.specs.Calls.{easedProgressOf}
-use Rattle.tween.proofs.Told.{fails, passes}
 use Rattle.tween.proofs.record.Tween.eased_progress.Statement.{statement}
 use Rattle.tween.proofs.record.Tween.eased_progress.Tie as tie
 

@@ -1,7 +1,7 @@
 -- `pause` meets its contract, by what its callees ensure. Assumes nothing.
 use borrow.Author.Needs.{needs}
+use Rattle.math.proofs.Choice.{fails, passes}
 use Rattle.tween.specs.Calls.{pauseOf}
-use Rattle.tween.proofs.Told.{fails, passes}
 use Rattle.tween.proofs.record.Tween.pause.Statement.{statement}
 use Rattle.tween.proofs.record.Tween.pause.Tie as tie
 

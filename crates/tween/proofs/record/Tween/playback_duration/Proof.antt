@@ -1,7 +1,7 @@
 -- `playback_duration` meets its contract, by what its callees ensure. Assumes nothing.
 use borrow.Author.Needs.{needs}
+use Rattle.math.proofs.Choice.{fails, passes}
 use Rattle.tween.specs.Calls.{playbackDurationOf}
-use Rattle.tween.proofs.Told.{fails, passes}
 use Rattle.tween.proofs.record.Tween.playback_duration.Statement.{statement}
 use Rattle.tween.proofs.record.Tween.playback_duration.Tie as tie
 

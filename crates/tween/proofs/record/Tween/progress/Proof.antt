@@ -1,7 +1,7 @@
 -- `progress` meets its contract, by what its callees ensure. Assumes nothing.
 use borrow.Author.Needs.{needs}
+use Rattle.math.proofs.Choice.{fails, passes}
 use Rattle.tween.specs.Calls.{progressOf}
-use Rattle.tween.proofs.Told.{fails, passes}
 use Rattle.tween.proofs.record.Tween.progress.Statement.{statement}
 use Rattle.tween.proofs.record.Tween.progress.Tie as tie
 

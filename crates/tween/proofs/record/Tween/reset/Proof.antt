@@ -1,7 +1,7 @@
 -- `reset` meets its contract, by what its callees ensure. Assumes nothing.
 use borrow.Author.Needs.{needs}
+use Rattle.math.proofs.Choice.{fails, passes}
 use Rattle.tween.specs.Calls.{resetOf}
-use Rattle.tween.proofs.Told.{fails, passes}
 use lib.Ieee.{ofBits}
 use Rattle.tween.proofs.record.Tween.reset.Statement.{statement}
 use Rattle.tween.proofs.record.Tween.reset.Tie as tie

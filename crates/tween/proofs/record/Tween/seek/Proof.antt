@@ -1,7 +1,7 @@
 -- `seek` meets its contract, by what its callees ensure. Assumes nothing.
 use borrow.Author.Needs.{needs}
+use Rattle.math.proofs.Choice.{fails, passes}
 use Rattle.tween.specs.Calls.{seekOf}
-use Rattle.tween.proofs.Told.{fails, passes}
 use Rattle.tween.proofs.record.Tween.seek.Statement.{statement}
 use Rattle.tween.proofs.record.Tween.seek.Tie as tie
 

@@ -1,7 +1,7 @@
 -- `snapshot` meets its contract, by what its callees ensure. Assumes nothing.
 use borrow.Author.Needs.{needs}
+use Rattle.math.proofs.Choice.{fails, passes}
 use Rattle.tween.specs.Calls.{snapshotOf}
-use Rattle.tween.proofs.Told.{fails, passes}
 use Rattle.tween.proofs.record.Tween.snapshot.Statement.{statement}
 use Rattle.tween.proofs.record.Tween.snapshot.Tie as tie
 

@@ -1,6 +1,6 @@
 -- `update` meets its contract, by what `step_on` ensures. Assumes nothing.
 use borrow.Author.Needs.{needs}
-use Rattle.tween.proofs.Told.{fails, passes}
+use Rattle.math.proofs.Choice.{fails, passes}
 use Rattle.tween.specs.Update.{updateOf}
 use Rattle.tween.proofs.record.Tween.update.Statement.{statement}
 use Rattle.tween.proofs.record.Tween.update.Tie as tie

@@ -1,6 +1,6 @@
 -- `value` meets its contract, by what `value_in` ensures. Assumes nothing.
 use borrow.Author.Needs.{needs}
-use Rattle.tween.proofs.Told.{fails, passes}
+use Rattle.math.proofs.Choice.{fails, passes}
 use Rattle.tween.specs.Calls.{valueOf}
 use Rattle.tween.proofs.record.Tween.value.Statement.{statement}
 use Rattle.tween.proofs.record.Tween.value.Tie as tie
