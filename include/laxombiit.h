@@ -1,4 +1,4 @@
-/* laxombiit.h: the C interface of Laxombiit, proved easings, tweens and keyframe tracks.
+/* laxombiit.h: the C interface of Laxombiit: proved easings and tweens. Tracks are not in it yet.
  *
  * Every record goes in and comes back by value; nothing is kept between calls, and no call
  * allocates. Each answer has a number: 0 where the call was accepted, the number of the refusal
@@ -9,7 +9,7 @@
  * A call refuses by the first rule that applies, in this order:
  * 4, 1, 2, 3, 5, 11, 10, 12, 9, 6, 7, 8; LAX_UNKNOWN_WORD comes before them all.
  *
- * Link with liblaxombiit.a, and with -lm: the tracks take C's fmodf.
+ * Link with liblaxombiit.a and -lm.
  * The calls want the processor in its default mode: rounding to nearest, subnormals kept.
  */
 #ifndef LAXOMBIIT_H

@@ -17,6 +17,5 @@ fn main() {
     }
     println!("cargo:rustc-link-search=native={}", folder.display());
     println!("cargo:rustc-link-lib=static=laxombiit");
-    // fmodf
     println!("cargo:rustc-link-lib=m");
 }
