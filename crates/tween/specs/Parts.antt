@@ -1,4 +1,4 @@
--- Document 01, "Which places take which form": "Tween struct of f32 fields by value; each update hands back one with changed elapsed". The one place where a tween is written out from another, and the source's defaults.
+-- Document 01, "Which places take which form": "Tween struct of f32 fields by value; each update hands back one with changed elapsed". The one place where a tween is written out from another, and a new one.
 use mathlib.Core.Bool.{false}
 use lib.Ieee.{Float}
 use Rattle.math.specs.Rounded.{zeroF, oneF}
@@ -53,7 +53,7 @@ moved e s t =
       state = s;
     }
 
--- the source's defaults: 1 s, Linear, no delay, scale 1, Once
+-- 1 s, Linear, no delay, scale 1, Once
 abbrev pub newOf : Float → Float → Tween
 newOf a b =
     record {
