@@ -4,22 +4,28 @@ use native.Mathlib.Nat.{le-refl}
 use native.Mathlib.Omega.{arith}
 use mathlib.Core.Path.{_≡_, refl, sym, ap, _∙_, subst, subst⁻¹}
 use mathlib.Core.Logic.{_↔_}
-use mathlib.Core.Bool.{Bool, true, false, not, cond, true≢false}
-use lib.Ieee.{Float, eq}
-use Rattle.math.specs.Rounded.{zeroF}
+use mathlib.Core.Bool.{Bool, true, false, not, _&&_, cond, true≢false}
+use borrow.Author.Tests.{not-true}
+use lib.Dec.{T}
+use lib.Ieee.{Float, lt, eq}
+use lib.Ieee.Bits.{is-true}
+use lib.Ieee.Fits.{and-i, and-l, and-r}
+use Rattle.math.proofs.Choice.{by-test}
+use Rattle.math.specs.Rounded.{zeroF, topF, _⊕_, _⊗_}
 use Rattle.math.specs.Range.{maxZeroOf}
 use Rattle.refusal.specs.declared.Refusal.the-variants.{TooManyFolds}
 use Rattle.refusal.specs.Number.{numberOf}
 use Rattle.loop_mode.specs.declared.Loop.{Loop}
 use Rattle.tween.specs.declared.record.Tween.{Tween}
 use Rattle.tween.specs.declared.record.TweenState.{TweenState}
-use Rattle.tween.specs.declared.record.TweenState.the-variants.{Running, Completed}
+use Rattle.tween.specs.declared.record.TweenState.the-variants.{Idle, Running, Paused, Completed}
 use Rattle.tween.specs.declared.answers.Updated.{Updated}
 use Rattle.tween.specs.declared.answers.Updated.the-variants.{Ran, Refused}
 use Rattle.tween.specs.declared.fold.Folding.{Folding}
 use Rattle.tween.specs.Folds.{foldOnce, due, foldsOf}
-use Rattle.tween.specs.Update.{beginAt, advanced, updateOf}
-use Rattle.tween.specs.Promises.{isCompleted, sumBy, foldTimes, TooFew}
+use Rattle.tween.specs.Update.{beginAt, advanced, waitOf, runOf, byState, updateOf}
+use Rattle.tween.specs.Limits.{withinOf}
+use Rattle.tween.specs.Promises.{isCompleted, sumBy, runsOn, comesToFold, foldTimes, TooFew}
 use Rattle.tween.proofs.Ways.{fold-counts, foldedFrom, by-advanced, by-update}
 
 -- n folds at most add n at most
@@ -79,6 +85,9 @@ module _ (l : Loop) (d : Float) where
   all-made (suc n) false p g h = absurd (true≢false (sym (h 0 (omega arith)) ∙ g))
   all-made (suc n) true p g h = all-made n (due d (foldOnce l d p)) (foldOnce l d p) refl (λ m k. h (suc m) (omega arith))
 
+failed : (b : Bool) → T (not b) → b ≡ false
+failed b h = not-true b (is-true (not b) h)
+
 abbrev Seven : Updated → Type 0
 Seven (Ran u k r) = ⊥
 Seven (Refused u r) = numberOf r ≡ 7
@@ -106,3 +115,63 @@ module _ (t : Tween) where
       let e = sumBy (maxZeroOf x) t (t .state) in
       by-update (λ (a : Updated). Seven a → (eq (t .duration) zeroF ≡ false) × TooFew t e) t (λ k. absurd (omega arith)) (λ k. absurd (omega arith)) (λ k. absurd (omega arith))
       (λ _ k. absurd k) (λ _ k. absurd k) (λ _ k. absurd k) x (λ w. seven-needs w e) (subst⁻¹ Seven h refl)
+
+  -- where the update comes to fold
+  folds-by : (x : Float) (s : TweenState) → T (runsOn x t s) → (w : Float) × (byState s t x ≡ advanced t w (sumBy x t s))
+  unfolding byState waitOf runOf
+  folds-by x Paused h = absurd h
+  folds-by x Completed h = absurd h
+  folds-by x Idle h =
+      let w = t .«delay_elapsed» ⊕ x in
+      let lost = lt zeroF x && eq w (t .«delay_elapsed») in
+      (w, rw (failed lost (and-l (not lost) (not (lt w (t .delay))) h), failed (lt w (t .delay)) (and-r (not lost) (not (lt w (t .delay))) h)))
+  folds-by x Running h =
+      let lost = lt zeroF x && lt zeroF (t .«time_scale») && lt (t .elapsed) (t .duration) && eq (t .elapsed ⊕ x ⊗ t .«time_scale») (t .elapsed) in
+      (t .«delay_elapsed», rw (failed lost h))
+
+  -- and where it does not, it gives no 7
+  seven-runs : (x : Float) (s : TweenState) → Seven (byState s t x) → T (runsOn x t s)
+  unfolding byState waitOf runOf
+  seven-runs x Paused h = absurd h
+  seven-runs x Completed h = absurd h
+  seven-runs x Idle h =
+      let w = t .«delay_elapsed» ⊕ x in
+      let lost = lt zeroF x && eq w (t .«delay_elapsed») in
+      by-test (λ (a : Updated). Seven a → T (not lost && not (lt w (t .delay)))) lost _ _ (λ _ k. absurd (omega arith))
+      (λ l. by-test (λ (a : Updated). Seven a → T (not lost && not (lt w (t .delay)))) (lt w (t .delay)) _ _ (λ _ k. absurd k) (λ d k. rw (l, d) tt)) h
+  seven-runs x Running h =
+      let lost = lt zeroF x && lt zeroF (t .«time_scale») && lt (t .elapsed) (t .duration) && eq (t .elapsed ⊕ x ⊗ t .«time_scale») (t .elapsed) in
+      by-test (λ (a : Updated). Seven a → T (not lost)) lost _ _ (λ _ k. absurd (omega arith)) (λ l k. rw l tt) h
+
+  seven-reaches : (x : Float) → Seven (updateOf t x) → T (withinOf t && not (lt topF x) && runsOn (maxZeroOf x) t (t .state))
+  unfolding updateOf
+  seven-reaches x =
+      let r = runsOn (maxZeroOf x) t (t .state) in
+      by-test (λ (a : Updated). Seven a → T (withinOf t && not (lt topF x) && r)) (withinOf t) _ _
+      (λ w.
+      by-test (λ (a : Updated). Seven a → T (withinOf t && not (lt topF x) && r)) (lt topF x) _ _ (λ _ k. absurd (omega arith))
+      (λ l k. and-i (withinOf t && not (lt topF x)) r (rw (w, l) tt) (seven-runs (maxZeroOf x) (t .state) k)))
+      (λ _ k. absurd (omega arith))
+
+  -- 7 exactly when an update comes to fold and 4,096 folds do not suffice
+  pub update-seven-exactly : (x : Float) → (updateOf t x ≡ Refused t TooManyFolds) ↔ (T (comesToFold t x) × TooFew t (sumBy (maxZeroOf x) t (t .state)))
+  unfolding updateOf
+  update-seven-exactly x = (λ h. (comes h, update-seven t x h .1), λ h. due-then (h .0) (h .1))
+    where
+      comes : updateOf t x ≡ Refused t TooManyFolds → T (comesToFold t x)
+      comes h =
+          let r = runsOn (maxZeroOf x) t (t .state) in
+          let a = seven-reaches x (subst⁻¹ Seven h refl) in
+          let z = update-seven t x h .0 in
+          and-i (withinOf t && not (lt topF x) && r) (not (eq (t .duration) zeroF)) a (rw z tt)
+
+      due-then : T (comesToFold t x) → TooFew t (sumBy (maxZeroOf x) t (t .state)) → updateOf t x ≡ Refused t TooManyFolds
+      due-then h few =
+          let r = runsOn (maxZeroOf x) t (t .state) in
+          let e = withinOf t && not (lt topF x) in
+          let d = not (eq (t .duration) zeroF) in
+          let a : T (e && r) = and-l (e && r) d h in
+          let b : T e = and-l e r a in
+          let k = folds-by (maxZeroOf x) (t .state) (and-r e r a) in
+          rw (is-true (withinOf t) (and-l (withinOf t) (not (lt topF x)) b), failed (lt topF x) (and-r (withinOf t) (not (lt topF x)) b))
+          (k .1 ∙ seven-due (k .0) (sumBy (maxZeroOf x) t (t .state)) (failed (eq (t .duration) zeroF) (and-r (e && r) d h)) few)

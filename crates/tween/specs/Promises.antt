@@ -1,9 +1,10 @@
 -- Document 01, "Records and their limits" and "Refusal numbers": what holds of every answer of a call that hands a tween back.
 use Prim.Native.Nat.{ℕ, zero, suc, _≤_}
 use mathlib.Core.Path.{_≡_}
-use mathlib.Core.Bool.{Bool, true, false, _&&_}
-use lib.Ieee.{Float}
-use Rattle.math.specs.Rounded.{_⊕_, _⊖_, _⊗_}
+use mathlib.Core.Bool.{Bool, true, false, not, _&&_}
+use lib.Ieee.{Float, lt, eq}
+use Rattle.math.specs.Rounded.{zeroF, topF, _⊕_, _⊖_, _⊗_}
+use Rattle.math.specs.Range.{maxZeroOf}
 use Rattle.loop_mode.specs.declared.Loop.{Loop}
 use Rattle.tween.specs.declared.record.Tween.{Tween}
 use Rattle.tween.specs.declared.record.TweenState.{TweenState}
@@ -48,6 +49,17 @@ sumBy x t Idle = t .elapsed ⊕ (t .«delay_elapsed» ⊕ x ⊖ t .delay) ⊗ t 
 sumBy x t Running = t .elapsed ⊕ x ⊗ t .«time_scale»
 sumBy x t Paused = t .elapsed
 sumBy x t Completed = t .elapsed
+
+-- the tween runs on by a step x: it is not lost, and the delay is over
+abbrev pub runsOn : Float → Tween → TweenState → Bool
+runsOn x t Idle = let w = t .«delay_elapsed» ⊕ x in not (lt zeroF x && eq w (t .«delay_elapsed»)) && not (lt w (t .delay))
+runsOn x t Running = not (lt zeroF x && lt zeroF (t .«time_scale») && lt (t .elapsed) (t .duration) && eq (t .elapsed ⊕ x ⊗ t .«time_scale») (t .elapsed))
+runsOn x t Paused = false
+runsOn x t Completed = false
+
+-- an update comes to fold: it is refused neither 4 nor 5 nor 6, the tween runs on, and the duration is not 0
+abbrev pub comesToFold : Tween → Float → Bool
+comesToFold t x = withinOf t && not (lt topF x) && runsOn (maxZeroOf x) t (t .state) && not (eq (t .duration) zeroF)
 
 -- n folds, due or not
 unfoldable pub foldTimes : ℕ → Loop → Float → Folding → Folding
