@@ -2,6 +2,8 @@
 // beside its answer: 0, the refusal's number, or 100 where a word is no kind, no mode or no state.
 mod answers;
 mod easings;
+mod track_answers;
+mod tracks;
 mod tweens;
 
 pub use answers::LaxChanged;
@@ -11,3 +13,6 @@ pub use answers::LaxRun;
 pub use answers::LaxSnapshot;
 pub use answers::LaxUpdated;
 pub use answers::LaxValue;
+pub use track_answers::LaxFilled;
+pub use track_answers::LaxTrackChanged;
+pub use track_answers::LaxTrackUpdated;

@@ -6,17 +6,16 @@ use native.Mathlib.Numerals.{add-one}
 use native.Mathlib.Omega.{arith}
 use lib.ListN.{length, take, drop, getD, set, length-map}
 use lib.Seq.{drop-cons, length-take-le, take-suc, take-length, drop-length, set-at}
-use lib.Ieee.{Float, nan}
 
-map-snoc : {A : Type 0} (f : A → Float) (l : List A) (x : A) → map f (l ++ (x ∷ [])) ≡ map f l ++ (f x ∷ [])
+map-snoc : {A B : Type 0} (f : A → B) (l : List A) (x : A) → map f (l ++ (x ∷ [])) ≡ map f l ++ (f x ∷ [])
 map-snoc f [] x = refl
-map-snoc f (a ∷ l) x = ap (λ (r : List Float). f a ∷ r) (map-snoc f l x)
+map-snoc {B = B} f (a ∷ l) x = ap (λ (r : List B). f a ∷ r) (map-snoc f l x)
 
 -- the first i places are filled
-unfoldable pub fillTo : {A : Type 0} → (A → Float) → List A → List Float → ℕ → List Float
+unfoldable pub fillTo : {A B : Type 0} → (A → B) → List A → List B → ℕ → List B
 fillTo f from out i = map f (take i from) ++ drop i out
 
-module _ {A : Type 0} (f : A → Float) (d : A) (from : List A) (out : List Float) (room : length from ≤ length out) where
+module _ {A B : Type 0} (f : A → B) (d : A) (from : List A) (out : List B) (room : length from ≤ length out) where
   pub fill-none : out ≡ fillTo f from out 0
   unfolding fillTo
   fill-none = refl
@@ -29,7 +28,7 @@ module _ {A : Type 0} (f : A → Float) (d : A) (from : List A) (out : List Floa
   fill-more i h =
       let o : i < length out = omega arith in
       let n : length (map f (take i from)) ≡ i = front-length i (omega arith) in
-      rw (add-one, take-suc from i d h, map-snoc, append-assoc, drop-cons out i nan o) (set-at (map f (take i from)) (getD out i nan) (drop (suc i) out) (f (getD from i d)) i n)
+      rw (add-one, take-suc from i d h, map-snoc, append-assoc, drop-cons out i (f d) o) (set-at (map f (take i from)) (getD out i (f d)) (drop (suc i) out) (f (getD from i d)) i n)
 
   pub fill-all : fillTo f from out (length from) ≡ map f from ++ drop (length from) out
   unfolding fillTo

@@ -1,6 +1,6 @@
 pub mod Answering
 mod Blends
-mod Fills
+pub mod Fills
 pub mod Halves
 pub mod Owned
 pub mod Picks

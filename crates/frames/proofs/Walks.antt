@@ -1,4 +1,4 @@
--- Walks along the first n of some frames, from the front: how many pass a test. Assumes nothing.
+-- Walks along the first n elements of a list, from the front, and how many frames pass a test. Assumes nothing.
 use Prim.Native.Nat.{ℕ, zero, suc, _+_, _<_, _≤_}
 use mathlib.Core.Path.{_≡_, refl, sym, ap, _∙_}
 use mathlib.Core.Bool.{Bool, true, false}
@@ -21,30 +21,31 @@ use Rattle.frames.specs.Sampling.{leading}
 pub array-long : (fs : List Keyframe) (vs : List Val) → Is (Array (row keyframe.the-type) 64) fs vs → length fs ≡ 64
 array-long fs vs h = h .1 .0 .1
 
-module _ (fs : List Keyframe) (n : ℕ) (fit : n ≤ length fs) where
-  -- the frames from i on are the frame at i and those after it
-  pub front : (i : ℕ) → i < n → drop i (take n fs) ≡ getD fs i noFrame ∷ drop (i + 1) (take n fs)
-  front i h =
-      let l : i < length (take n fs) = omega (arith, length-take-le n fs fit) in
-      rw (add-one, drop-cons (take n fs) i noFrame l, getD-take n fs i noFrame h)
+module _ {A : Type 0} (l : List A) (n : ℕ) (fit : n ≤ length l) where
+  -- what is left from i on is the element at i and those after it
+  pub front : (d : A) (i : ℕ) → i < n → drop i (take n l) ≡ getD l i d ∷ drop (i + 1) (take n l)
+  front d i h =
+      let r : i < length (take n l) = omega (arith, length-take-le n l fit) in
+      rw (add-one, drop-cons (take n l) i d r, getD-take n l i d h)
 
-  pub back : drop n (take n fs) ≡ []
+  pub back : drop n (take n l) ≡ []
   back =
-      let e : length (take n fs) ≡ n = length-take-le n fs fit in
-      ap (λ (k : ℕ). drop k (take n fs)) (sym e) ∙ drop-length (take n fs)
+      let e : length (take n l) ≡ n = length-take-le n l fit in
+      ap (λ (k : ℕ). drop k (take n l)) (sym e) ∙ drop-length (take n l)
 
+module _ (fs : List Keyframe) (n : ℕ) (fit : n ≤ length fs) where
   module _ (q : Keyframe → Bool) where
     pub lead-yes : (i : ℕ) → i < n → q (getD fs i noFrame) ≡ true → leading q (drop i (take n fs)) ≡ suc (leading q (drop (i + 1) (take n fs)))
     unfolding leading
-    lead-yes i h e = rw (front i h, e)
+    lead-yes i h e = rw (front fs n fit noFrame i h, e)
 
     pub lead-no : (i : ℕ) → i < n → q (getD fs i noFrame) ≡ false → leading q (drop i (take n fs)) ≡ 0
     unfolding leading
-    lead-no i h e = rw (front i h, e)
+    lead-no i h e = rw (front fs n fit noFrame i h, e)
 
     pub lead-end : leading q (drop n (take n fs)) ≡ 0
     unfolding leading
-    lead-end = rw back
+    lead-end = rw (back fs n fit)
 
 -- m frames pass and the next, if there is one, does not
 pub lead-is : (q : Keyframe → Bool) (l : List Keyframe) (m : ℕ) → m ≤ length l → ((j : ℕ) → j < m → q (getD l j noFrame) ≡ true)

@@ -51,7 +51,7 @@ module _ (fs : List Keyframe) (n : ℕ) (fit : n ≤ length fs) where
   pub after-step : (i : ℕ) (p : Float) → i < n
       → framesAfter p (drop i (take n fs)) ≡ frameOf (getD fs i noFrame) && lt p (getD fs i noFrame .time) && framesAfter (getD fs i noFrame .time) (drop (i + 1) (take n fs))
   unfolding framesAfter
-  after-step i p h = rw (front fs n fit i h)
+  after-step i p h = rw (front fs n fit noFrame i h)
 
   pub after-end : (p : Float) → framesAfter p (drop n (take n fs)) ≡ true
   unfolding framesAfter

@@ -1,3 +1,4 @@
+mod Known
 mod Plain
 pub mod ReadBack
 mod Rest

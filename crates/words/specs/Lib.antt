@@ -1,3 +1,4 @@
 pub mod Kinds
 pub mod Modes
 pub mod Tweens
+pub mod Tracks

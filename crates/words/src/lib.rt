@@ -1,6 +1,7 @@
 // Records as words of 32 bits, for the C interface. Reading answers Unknown where a word is no kind, no mode or no state.
 mod kinds;
 mod modes;
+mod tracks;
 mod tweens;
 
 pub use kinds::EasingRead;
@@ -13,6 +14,11 @@ pub use modes::flag_word;
 pub use modes::loop_of;
 pub use modes::loop_words;
 pub use modes::state_word;
+pub use tracks::LaxKeyframe;
+pub use tracks::LaxTrack;
+pub use tracks::is_known;
+pub use tracks::track_of;
+pub use tracks::track_words;
 pub use tweens::LaxTween;
 pub use tweens::TweenRead;
 pub use tweens::tween_of;

@@ -1,0 +1,18 @@
+-- `lax_track_seek_to` meets its contract, by what its callees ensure. Assumes nothing.
+use borrow.Author.Needs.{needs}
+use Rattle.capi.specs.Tracks.{laxTrackSeekTo}
+use Rattle.capi.proofs.tracks.lax_track_seek_to.Statement.{statement}
+use Rattle.capi.proofs.tracks.lax_track_seek_to.Tie as tie
+
+pub lax-track-seek-to-spec : {M : Type 1} → statement M
+unfolding laxTrackSeekTo
+lax-track-seek-to-spec =
+    tie.close
+    (tie.spec
+    (λ c κs. search needs)
+    (λ c κs. search needs)
+    (λ c κs. search needs)
+    (λ c κs. search needs)
+    (λ c. simp (← (c .before .before .before .before .is-known .ensures), c .before .before .before .if1 .taken, c .track-changed-words .ensures, c .before .seek-to .ensures, c .before .before .track-of .ensures))
+    (λ c κs. search needs)
+    (λ c. simp (← (c .before .before .is-known .ensures), c .before .if1 .left, c .refused .ensures)))

@@ -1,0 +1,90 @@
+-- What the exported calls of a track answer: the track read from its words, the library's definition, the answer's words.
+use Prim.Native.Nat.{ℕ}
+use mathlib.Core.Bool.{cond}
+use mathlib.Core.List.{List}
+use lib.ListN.{replicate}
+use lib.Ieee.{Float}
+use Rattle.math.specs.Rounded.{zeroF}
+use Rattle.easing.specs.declared.kinds.Easing.the-variants.{Linear}
+use Rattle.keyframe.specs.declared.types.Track.{Track}
+use Rattle.keyframe.specs.Pushing.{newTrack, pushOf, loopingOf}
+use Rattle.keyframe.specs.Sampling.{valueAtOf, valueNow}
+use Rattle.keyframe.specs.Batch.{batchCount, batchNumber, batchOut}
+use Rattle.keyframe.specs.Playback.{activeTimeOf, durationIn, playbackIn, progressOf, completeOf}
+use Rattle.keyframe.specs.Stepping.{resetOf, seekToOf, updateOf}
+use Rattle.words.specs.declared.kinds.LaxEasing.{LaxEasing}
+use Rattle.words.specs.declared.kinds.EasingRead.{EasingRead}
+use Rattle.words.specs.declared.kinds.EasingRead.the-variants as kind
+use Rattle.words.specs.declared.modes.LaxLoop.{LaxLoop}
+use Rattle.words.specs.declared.modes.LoopRead.{LoopRead}
+use Rattle.words.specs.declared.modes.LoopRead.the-variants as mode
+use Rattle.words.specs.declared.tracks.LaxTrack.{LaxTrack}
+use Rattle.words.specs.Kinds.{easingFrom, easingWords}
+use Rattle.words.specs.Modes.{loopFrom}
+use Rattle.words.specs.Tracks.{knownTrack, trackFrom, trackWords}
+use Rattle.capi.specs.declared.answers.LaxValue.{LaxValue}
+use Rattle.capi.specs.declared.answers.LaxFlag.{LaxFlag}
+use Rattle.capi.specs.declared.track_answers.LaxTrackChanged.{LaxTrackChanged}
+use Rattle.capi.specs.declared.track_answers.LaxTrackUpdated.{LaxTrackUpdated}
+use Rattle.capi.specs.declared.track_answers.LaxFilled.{LaxFilled}
+use Rattle.capi.specs.Answers.{noValue, valueWords, secondsWords, progressWords, noFlag}
+use Rattle.capi.specs.TrackAnswers.{untouched, trackChangedWords, notStepped, trackUpdatedWords, completionWords}
+
+-- the answer for a track that was read, or the one for words that are none
+abbrev pub onTrack : {A : Type 0} → LaxTrack → (Track → A) → A → A
+onTrack w known unknown = cond (knownTrack w) (known (trackFrom w)) unknown
+
+-- the places are 0
+unfoldable pub laxTrackNew : LaxTrack
+laxTrackNew = trackWords (replicate 64 (record { time = zeroF; value = zeroF; easing = easingWords Linear })) newTrack
+
+abbrev pub pushed : LaxTrack → Float → Float → EasingRead → Track → LaxTrackChanged
+pushed w time value (kind.Known e) t = trackChangedWords w (pushOf t time value e)
+pushed w time value kind.Unknown t = untouched w 100
+
+unfoldable pub laxTrackPush : LaxTrack → Float → Float → LaxEasing → LaxTrackChanged
+laxTrackPush w time value e = onTrack w (pushed w time value (easingFrom e)) (untouched w 100)
+
+abbrev pub looped : LaxTrack → LoopRead → Track → LaxTrackChanged
+looped w (mode.Known l) t = trackChangedWords w (loopingOf t l)
+looped w mode.Unknown t = untouched w 100
+
+unfoldable pub laxTrackLooping : LaxTrack → LaxLoop → LaxTrackChanged
+laxTrackLooping w m = onTrack w (looped w (loopFrom m)) (untouched w 100)
+
+unfoldable pub laxTrackValueAt : LaxTrack → Float → LaxValue
+laxTrackValueAt w secs = onTrack w (λ t. valueWords (valueAtOf t secs)) (noValue 100)
+
+unfoldable pub laxTrackValue : LaxTrack → LaxValue
+laxTrackValue w = onTrack w (λ t. valueWords (valueNow t)) (noValue 100)
+
+unfoldable pub laxTrackActiveTime : LaxTrack → LaxValue
+laxTrackActiveTime w = onTrack w (λ t. secondsWords (activeTimeOf t)) (noValue 100)
+
+unfoldable pub laxTrackDuration : LaxTrack → LaxValue
+laxTrackDuration w = onTrack w (λ t. secondsWords (durationIn t)) (noValue 100)
+
+unfoldable pub laxTrackPlaybackDuration : LaxTrack → LaxValue
+laxTrackPlaybackDuration w = onTrack w (λ t. secondsWords (playbackIn t)) (noValue 100)
+
+unfoldable pub laxTrackProgress : LaxTrack → LaxValue
+laxTrackProgress w = onTrack w (λ t. progressWords (progressOf t)) (noValue 100)
+
+unfoldable pub laxTrackIsComplete : LaxTrack → LaxFlag
+laxTrackIsComplete w = onTrack w (λ t. completionWords (completeOf t)) (noFlag 100)
+
+unfoldable pub laxTrackReset : LaxTrack → LaxTrackChanged
+laxTrackReset w = onTrack w (λ t. trackChangedWords w (resetOf t)) (untouched w 100)
+
+unfoldable pub laxTrackSeekTo : LaxTrack → Float → LaxTrackChanged
+laxTrackSeekTo w p = onTrack w (λ t. trackChangedWords w (seekToOf t p)) (untouched w 100)
+
+unfoldable pub laxTrackUpdate : LaxTrack → Float → LaxTrackUpdated
+laxTrackUpdate w step = onTrack w (λ t. trackUpdatedWords w (updateOf t step)) (notStepped w 100)
+
+-- many times at once, and the lent output afterwards
+unfoldable pub laxTrackFilled : LaxTrack → List Float → List Float → LaxFilled
+laxTrackFilled w times out = onTrack w (λ t. record { filled = batchCount t times out; number = batchNumber t times out }) (record { filled = 0; number = 100 })
+
+unfoldable pub laxTrackOut : LaxTrack → List Float → List Float → List Float
+laxTrackOut w times out = onTrack w (λ t. batchOut t times out) out

@@ -1,0 +1,204 @@
+// The calls of a track.
+ghost use mathlib.Core.Path.{_≡_};
+ghost use Rattle.capi.specs.Tracks.{laxTrackNew, laxTrackPush, laxTrackLooping, laxTrackValueAt, laxTrackValue, laxTrackFilled, laxTrackOut, laxTrackActiveTime, laxTrackDuration, laxTrackPlaybackDuration, laxTrackProgress, laxTrackIsComplete, laxTrackReset, laxTrackSeekTo, laxTrackUpdate};
+ghost use Rattle.words.specs.Kinds.{easingWords};
+ghost use Rattle.easing.specs.declared.kinds.Easing.the-variants.{Linear};
+use crate::answers::LaxFlag;
+use crate::answers::LaxValue;
+use crate::answers::no_flag;
+use crate::answers::no_value;
+use crate::answers::progress_words;
+use crate::answers::seconds_words;
+use crate::answers::value_words;
+use crate::track_answers::LaxFilled;
+use crate::track_answers::LaxTrackChanged;
+use crate::track_answers::LaxTrackUpdated;
+use crate::track_answers::completion_words;
+use crate::track_answers::refused;
+use crate::track_answers::stood;
+use crate::track_answers::track_changed_words;
+use crate::track_answers::track_updated_words;
+use easing::Easing;
+use keyframe::Track;
+use units::Progress;
+use units::Seconds;
+use words::EasingRead;
+use words::LaxEasing;
+use words::LaxKeyframe;
+use words::LaxLoop;
+use words::LaxTrack;
+use words::LoopRead;
+use words::easing_of;
+use words::easing_words;
+use words::is_known;
+use words::loop_of;
+use words::track_of;
+use words::track_words;
+
+#[no_mangle]
+pub extern "C" fn lax_track_new() -> LaxTrack
+    ensures { λ r. ⌜ r ≡ laxTrackNew ⌝ }
+{
+    let blank = LaxKeyframe {
+        time: 0.0,
+        value: 0.0,
+        easing: easing_words(Easing::Linear),
+    };
+    let places = [blank; 64];
+    track_words(places, Track::new())
+}
+
+#[no_mangle]
+pub extern "C" fn lax_track_push(w: LaxTrack, time: f32, value: f32) -> LaxTrackChanged
+    ensures { λ r. ⌜ r ≡ laxTrackPush w time value (easingWords Linear) ⌝ }
+{
+    lax_track_push_eased(w, time, value, easing_words(Easing::Linear))
+}
+
+#[no_mangle]
+pub extern "C" fn lax_track_push_eased(
+    w: LaxTrack,
+    time: f32,
+    value: f32,
+    e: LaxEasing,
+) -> LaxTrackChanged
+    ensures { λ r. ⌜ r ≡ laxTrackPush w time value e ⌝ }
+{
+    if is_known(w) {
+        let EasingRead::Known(easing) = easing_of(e) else {
+            return refused(w, 100);
+        };
+        return track_changed_words(w, track_of(w).push_eased(time, value, easing));
+    }
+    refused(w, 100)
+}
+
+#[no_mangle]
+pub extern "C" fn lax_track_looping(w: LaxTrack, mode: LaxLoop) -> LaxTrackChanged
+    ensures { λ r. ⌜ r ≡ laxTrackLooping w mode ⌝ }
+{
+    if is_known(w) {
+        let LoopRead::Known(looping) = loop_of(mode) else {
+            return refused(w, 100);
+        };
+        return track_changed_words(w, track_of(w).looping(looping));
+    }
+    refused(w, 100)
+}
+
+#[no_mangle]
+pub extern "C" fn lax_track_value_at(w: LaxTrack, secs: f32) -> LaxValue
+    ensures { λ r. ⌜ r ≡ laxTrackValueAt w secs ⌝ }
+{
+    if is_known(w) {
+        return value_words(track_of(w).value_at(Seconds(secs)));
+    }
+    no_value(100)
+}
+
+#[no_mangle]
+pub extern "C" fn lax_track_value(w: LaxTrack) -> LaxValue
+    ensures { λ r. ⌜ r ≡ laxTrackValue w ⌝ }
+{
+    if is_known(w) {
+        return value_words(track_of(w).value());
+    }
+    no_value(100)
+}
+
+#[no_mangle]
+pub extern "C" fn lax_track_active_time(w: LaxTrack) -> LaxValue
+    ensures { λ r. ⌜ r ≡ laxTrackActiveTime w ⌝ }
+{
+    if is_known(w) {
+        return seconds_words(track_of(w).active_time());
+    }
+    no_value(100)
+}
+
+#[no_mangle]
+pub extern "C" fn lax_track_duration(w: LaxTrack) -> LaxValue
+    ensures { λ r. ⌜ r ≡ laxTrackDuration w ⌝ }
+{
+    if is_known(w) {
+        return seconds_words(track_of(w).duration());
+    }
+    no_value(100)
+}
+
+#[no_mangle]
+pub extern "C" fn lax_track_playback_duration(w: LaxTrack) -> LaxValue
+    ensures { λ r. ⌜ r ≡ laxTrackPlaybackDuration w ⌝ }
+{
+    if is_known(w) {
+        return seconds_words(track_of(w).playback_duration());
+    }
+    no_value(100)
+}
+
+#[no_mangle]
+pub extern "C" fn lax_track_progress(w: LaxTrack) -> LaxValue
+    ensures { λ r. ⌜ r ≡ laxTrackProgress w ⌝ }
+{
+    if is_known(w) {
+        return progress_words(track_of(w).progress());
+    }
+    no_value(100)
+}
+
+#[no_mangle]
+pub extern "C" fn lax_track_is_complete(w: LaxTrack) -> LaxFlag
+    ensures { λ r. ⌜ r ≡ laxTrackIsComplete w ⌝ }
+{
+    if is_known(w) {
+        return completion_words(track_of(w).is_complete());
+    }
+    no_flag(100)
+}
+
+#[no_mangle]
+pub extern "C" fn lax_track_reset(w: LaxTrack) -> LaxTrackChanged
+    ensures { λ r. ⌜ r ≡ laxTrackReset w ⌝ }
+{
+    if is_known(w) {
+        return track_changed_words(w, track_of(w).reset());
+    }
+    refused(w, 100)
+}
+
+#[no_mangle]
+pub extern "C" fn lax_track_seek_to(w: LaxTrack, p: f32) -> LaxTrackChanged
+    ensures { λ r. ⌜ r ≡ laxTrackSeekTo w p ⌝ }
+{
+    if is_known(w) {
+        return track_changed_words(w, track_of(w).seek_to(Progress(p)));
+    }
+    refused(w, 100)
+}
+
+#[no_mangle]
+pub extern "C" fn lax_track_update(w: LaxTrack, step: f32) -> LaxTrackUpdated
+    ensures { λ r. ⌜ r ≡ laxTrackUpdate w step ⌝ }
+{
+    if is_known(w) {
+        return track_updated_words(w, track_of(w).update(step));
+    }
+    stood(w, 100)
+}
+
+// The value at each time goes into the front of out.
+#[no_mangle]
+pub extern "C" fn lax_track_values_at(w: LaxTrack, times: &[f32], out: &mut [f32]) -> LaxFilled
+    ensures answer { λ r. ⌜ r ≡ laxTrackFilled w (now (times .entry)) (now (out .entry)) ⌝ }
+    ensures output { λ _. ⌜ now (out .exit) ≡ laxTrackOut w (now (times .entry)) (now (out .entry)) ⌝ }
+{
+    if is_known(w) {
+        let mut number: u32 = 0;
+        let filled = track_of(w).fill_values(times, out, &mut number);
+        return LaxFilled { filled, number };
+    }
+    LaxFilled {
+        filled: 0,
+        number: 100,
+    }
+}

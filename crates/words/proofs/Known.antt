@@ -1,0 +1,36 @@
+-- The kinds of a track's words, from place i on. Assumes nothing.
+use Prim.Native.Nat.{ℕ, _+_, _<_, _≤_}
+use mathlib.Core.Path.{_≡_, sym, _∙_}
+use mathlib.Core.Bool.{true, _&&_}
+use mathlib.Core.List.{List}
+use lib.Dec.{ltb}
+use lib.ListN.{length, length-map, take, drop, getD}
+use lib.Ieee.{nan}
+use mir.Val.{Val}
+use denote.Laws.{Is}
+use denote.Struct.Declared.{row}
+use denote.Struct.Laws.{owed}
+use Rattle.frames.proofs.Walks.{front, back}
+use Rattle.words.specs.declared.tracks.LaxKeyframe.{LaxKeyframe}
+use Rattle.words.specs.declared.tracks.LaxTrack.{LaxTrack}
+use Rattle.words.proofs.tracks.LaxTrack.{the-type}
+use Rattle.words.proofs.tracks.LaxTrack.Laws.{the-laws}
+use Rattle.words.specs.Kinds.{words}
+use Rattle.words.specs.Tracks.{knownKinds}
+
+-- the array has 64 places
+pub words-long : (w : LaxTrack) (vs : List Val) → Is (row the-type) w vs → length (w .frames) ≡ 64
+words-long w vs h = sym (length-map (w .frames) _) ∙ owed the-type the-laws w vs h .0 .1 .0 .1
+
+-- what stands past the end of a list, for `getD`
+abbrev noWords : LaxKeyframe
+noWords = record { time = nan; value = nan; easing = words 0 nan nan nan nan 0 }
+
+module _ (ws : List LaxKeyframe) (n : ℕ) (fit : n ≤ length ws) where
+  pub known-step : (i : ℕ) → i < n → knownKinds (drop i (take n ws)) ≡ ltb (getD ws i noWords .easing .kind) 38 && knownKinds (drop (i + 1) (take n ws))
+  unfolding knownKinds
+  known-step i h = rw (front ws n fit noWords i h)
+
+  pub known-end : knownKinds (drop n (take n ws)) ≡ true
+  unfolding knownKinds
+  known-end = rw (back ws n fit)

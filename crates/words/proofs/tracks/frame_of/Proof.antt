@@ -1,0 +1,16 @@
+-- `frame_of` meets its contract: each arm is told its answer. Assumes nothing.
+use borrow.Author.Needs.{needs}
+use Rattle.words.specs.Tracks.{frameFrom}
+use Rattle.words.proofs.tracks.frame_of.Statement.{statement}
+use Rattle.words.proofs.tracks.frame_of.Tie as tie
+
+pub frame-of-spec : {M : Type 1} → statement M
+unfolding frameFrom
+frame-of-spec =
+    tie.close
+    (tie.spec
+    (λ c κs. search needs)
+    (λ c. search needs)
+    (λ c. search needs)
+    (λ c. simp (← (c .before .before .before .easing-of .ensures), c .before .easing .given .1))
+    (λ c. simp (← (c .before .before .easing-of .ensures), c .enum-told .given .1)))
