@@ -4,7 +4,7 @@
 
 #include "laxombiit.h"
 
-static uint32_t ramp(void)
+static uint32_t run_ramp(void)
 {
     lax_tween ramp = lax_tween_new(10.0f, 20.0f);
     int second;
@@ -24,7 +24,7 @@ static uint32_t ramp(void)
     return LAX_OK;
 }
 
-static uint32_t track(void)
+static uint32_t sample_track(void)
 {
     const float frame[4][2] = {{0.0f, 0.0f}, {1.0f, 8.0f}, {3.0f, 8.0f}, {4.0f, 2.0f}};
     const float times[5] = {0.5f, 1.0f, 2.0f, 3.75f, 9.0f};
@@ -49,9 +49,9 @@ static uint32_t track(void)
 
 int main(void)
 {
-    uint32_t number = ramp();
+    uint32_t number = run_ramp();
     if (number == LAX_OK) {
-        number = track();
+        number = sample_track();
     }
     if (number != LAX_OK) {
         printf("refused %u\n", (unsigned)number);
