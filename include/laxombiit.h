@@ -176,9 +176,9 @@ typedef struct lax_keyframe {
 enum { LAX_FRAMES = 64 };
 
 /* A value along frames. The track's frames are the first count places, at strictly ascending times;
- * the places behind them are not looked at, and come back as 0. One pass takes the last frame's
- * time; in the modes with an end that time, times the passes, is at most 16,777,216. complete is a
- * flag: a word that is not 0 is true, and comes back as 1. */
+ * the places behind them are not looked at, and come back as they came. One pass takes the last
+ * frame's time; in the modes with an end that time, times the passes, is at most 16,777,216.
+ * complete is a flag: a word that is not 0 is true, and comes back as 1. */
 typedef struct lax_track {
     lax_keyframe frames[LAX_FRAMES];
     uint32_t count;      /* up to 64 */

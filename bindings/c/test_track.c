@@ -355,24 +355,29 @@ static void limits(void)
     CHECK(kept(lax_track_push_eased(broken(4), NAN, NAN, kind(38)), LAX_UNKNOWN_WORD, broken(4)));
 }
 
-/* Words without a use come back as 0 from an accepted call, and as they were from a refused one. */
+/* From an accepted call words without a use come back as 0, and places behind the count as they
+ * came; from a refused call every word comes back as it came. */
 static void unused_words(void)
 {
-    lax_track t = pair(LAX_ONCE, 0), messy = t;
+    lax_track t = pair(LAX_ONCE, 0), messy, moved, longer;
     lax_easing e = kind(LAX_LINEAR);
-    messy.frames[0].easing.c = 5.0f;
-    messy.frames[2].time = NAN;
-    messy.frames[2].easing.kind = 38;
-    messy.frames[63].value = INFINITY;
+    t.frames[2].time = NAN;
+    t.frames[2].easing.kind = 38;
+    t.frames[63].value = INFINITY;
+    moved = longer = messy = t;
+    messy.frames[0].easing.c = e.a = 5.0f;
     messy.looping.passes = 70000;
+    moved.elapsed = 1.0f;
+    longer.count = 3;
+    longer.frames[2] = longer.frames[1];
+    longer.frames[2].time = 3.0f; /* and value 8 */
     CHECK(value_is(lax_track_value_at(messy, 1.0f), 4.0f));
     CHECK(same(lax_track_reset(messy).track, t));
-    CHECK(same(lax_track_update(messy, 1.0f).track, lax_track_update(t, 1.0f).track));
-    CHECK(same(lax_track_seek_to(messy, 0.5f).track, lax_track_seek_to(t, 0.5f).track));
-    CHECK(same(lax_track_looping(messy, t.looping).track, t));
-    e.a = 5.0f;
+    CHECK(same(lax_track_update(messy, 1.0f).track, moved));
+    CHECK(same(lax_track_seek_to(messy, 0.5f).track, moved));
+    CHECK(same(lax_track_looping(messy, messy.looping).track, t));
     CHECK(same(lax_track_push_eased(messy, 2.0f, 8.0f, e).track, t));
-    CHECK(same(lax_track_push(messy, 3.0f, 1.0f).track, lax_track_push(t, 3.0f, 1.0f).track));
+    CHECK(same(lax_track_push(messy, 3.0f, 8.0f).track, longer));
     CHECK(kept(lax_track_push(messy, NAN, 1.0f), LAX_TRACK_LIMIT, messy));
     CHECK(stopped(lax_track_update(messy, INFINITY), LAX_STEP_TOO_LONG, messy));
 }
