@@ -29,7 +29,10 @@ static lax_track ladder(uint32_t count)
 
 static int same(lax_track x, lax_track y) { return memcmp(&x, &y, sizeof x) == 0; }
 
-static int kept(lax_track_changed c, uint32_t number, lax_track t) { return c.number == number && same(c.track, t); }
+static int kept(lax_track_changed c, uint32_t number, lax_track t)
+{
+    return c.number == number && same(c.track, t);
+}
 
 /* What moves. */
 static int stands(lax_track t, float elapsed, uint32_t loop_count, uint32_t complete)
@@ -78,6 +81,10 @@ static void samples(void)
     t = lax_track_push(lax_track_new(), 5.0f, 3.0f).track;
     CHECK(value_is(lax_track_value_at(t, 0.0f), 3.0f) && value_is(lax_track_value_at(t, 9.0f), 3.0f));
     CHECK(value_is(lax_track_value(t), 3.0f));
+    /* a frame's own time is the start of its interval: 1e7 + (0.1 - 1e7) would be 0 */
+    t = lax_track_push(pair(LAX_ONCE, 0), 0.0f, 1e7f).track;
+    t = lax_track_push(t, 1.0f, 0.1f).track;
+    CHECK(value_is(lax_track_value_at(t, 1.0f), 0.1f));
 }
 
 /* Frames are pushed in no order, until none goes in. */

@@ -117,6 +117,9 @@ fn value_at() {
         assert_eq!(t.value_at(secs), Ok(value));
     }
     assert_eq!(t.value(), Ok(4.0));
+    // a frame's own time is the start of its interval: 1e7 + (0.1 - 1e7) would be 0
+    let steep = [linear(0.0, 1e7), linear(1.0, 0.1), linear(2.0, 8.0)];
+    assert_eq!(Track::from_parts(&steep, 0.0, Loop::Once, 0, false).unwrap().value_at(1.0), Ok(0.1));
     let one = Track::from_parts(&[linear(5.0, 3.0)], 0.0, Loop::Once, 0, false).unwrap();
     assert_eq!((one.value_at(0.0), one.value_at(9.0), one.value()), (Ok(3.0), Ok(3.0), Ok(3.0)));
     assert_eq!(Track::new().value_at(0.0), Err(Refusal::NoFrames));
