@@ -1,15 +1,16 @@
-/* laxombiit.h: the C interface of Laxombiit: proved easings and tweens. Tracks are not in it yet.
+/* laxombiit.h: the C interface of Laxombiit: proved easings, tweens and keyframe tracks.
  *
  * Every record goes in and comes back by value; nothing is kept between calls, and no call
  * allocates. Each answer has a number: 0 where the call was accepted, the number of the refusal
  * where it was refused, LAX_UNKNOWN_WORD where a word is no kind, no mode or no state. Where the
  * number is not 0 the rest of the answer is 0, but for a record, which is then the one that came,
- * and lent lists are not written.
+ * word for word, and lent lists are not written; lax_run says where a run of steps differs. A list
+ * that is written overlaps no other.
  *
  * A call refuses by the first rule that applies, in this order:
  * 4, 1, 2, 3, 5, 11, 10, 12, 9, 6, 7, 8; LAX_UNKNOWN_WORD comes before them all.
  *
- * Link with liblaxombiit.a and -lm.
+ * Link with liblaxombiit.a and -lm: the time within a pass of a track takes C's fmodf.
  * The calls want the processor in its default mode: rounding to nearest, subnormals kept.
  */
 #ifndef LAXOMBIIT_H
@@ -164,6 +165,47 @@ typedef struct lax_run {
     lax_tween tween;
 } lax_run;
 
+/* A frame of a track. easing goes from this frame to the next. */
+typedef struct lax_keyframe {
+    float time;  /* in seconds; +0 to 16,777,216, and -0 is beyond */
+    float value; /* at most 16,777,216 in size */
+    lax_easing easing;
+} lax_keyframe;
+
+/* The most frames that a track holds. */
+enum { LAX_FRAMES = 64 };
+
+/* A value along frames. The track's frames are the first count places, at strictly ascending times;
+ * the places behind them are not looked at, and come back as they came. One pass takes the last
+ * frame's time; in the modes with an end that time, times the passes, is at most 16,777,216.
+ * complete is a flag: a word that is not 0 is true, and comes back as 1. */
+typedef struct lax_track {
+    lax_keyframe frames[LAX_FRAMES];
+    uint32_t count;      /* up to 64 */
+    float elapsed;       /* in seconds, over all passes; 0 to 16,777,216 */
+    lax_loop looping;
+    uint32_t loop_count; /* whole passes, counted before elapsed is cut at the end */
+    uint32_t complete;
+} lax_track;
+
+typedef struct lax_track_changed {
+    uint32_t number;
+    lax_track track;
+} lax_track_changed;
+
+/* running: 0 once complete, and with fewer than two frames. */
+typedef struct lax_track_updated {
+    uint32_t number;
+    uint32_t running;
+    lax_track track;
+} lax_track_updated;
+
+/* filled: how many places at the front of the output were written. */
+typedef struct lax_filled {
+    size_t filled;
+    uint32_t number;
+} lax_filled;
+
 /* The layout that the archive was built for. */
 typedef char lax_size_of_easing[sizeof(lax_easing) == 24 ? 1 : -1];
 typedef char lax_size_of_loop[sizeof(lax_loop) == 8 ? 1 : -1];
@@ -175,6 +217,11 @@ typedef char lax_size_of_snapshot[sizeof(lax_snapshot) == 24 ? 1 : -1];
 typedef char lax_size_of_changed[sizeof(lax_changed) == 76 ? 1 : -1];
 typedef char lax_size_of_updated[sizeof(lax_updated) == 84 ? 1 : -1];
 typedef char lax_size_of_run[sizeof(lax_run) == 88 ? 1 : -1];
+typedef char lax_size_of_keyframe[sizeof(lax_keyframe) == 32 ? 1 : -1];
+typedef char lax_size_of_track[sizeof(lax_track) == 2072 ? 1 : -1];
+typedef char lax_size_of_track_changed[sizeof(lax_track_changed) == 2076 ? 1 : -1];
+typedef char lax_size_of_track_updated[sizeof(lax_track_updated) == 2080 ? 1 : -1];
+typedef char lax_size_of_filled[sizeof(lax_filled) == 16 ? 1 : -1];
 
 /* Easings. */
 
@@ -215,6 +262,48 @@ lax_updated lax_tween_update(lax_tween t, float step);
  * are unwritten from there on. */
 lax_run lax_tween_run(lax_tween t, const float *steps, size_t steps_len, float *values, size_t values_len,
                       uint32_t *folds, size_t folds_len);
+
+/* Tracks. Each call but the first refuses 4 where the track breaks a limit; a count above 64 is
+ * one, and then all 64 places are looked at for an unknown word. */
+
+/* No frames, once. */
+lax_track lax_track_new(void);
+
+/* A linear frame, put in its place by time; a frame at an equal time is replaced. -0 is stored as
+ * +0. Clears complete, keeps elapsed and loop_count. Refuses 11 where the time, the value or the
+ * total is beyond its limit, 9 where the track is full and no frame has this time. */
+lax_track_changed lax_track_push(lax_track t, float time, float value);
+
+/* The same with an easing. Refuses 2 and 3 for it, and as lax_track_push. */
+lax_track_changed lax_track_push_eased(lax_track t, float time, float value, lax_easing e);
+
+/* Another mode. Clears complete, keeps elapsed and loop_count. Refuses 11 where the passes or the
+ * total is beyond its limit. */
+lax_track_changed lax_track_looping(lax_track t, lax_loop mode);
+
+/* The value at so many seconds; NaN and what is below 0 count as 0, and from the last frame on it
+ * is the last value. Refuses 10. */
+lax_value lax_track_value_at(lax_track t, float secs);
+
+/* The value at the active time. Refuses 10. */
+lax_value lax_track_value(lax_track t);
+
+/* The values at many times, into the front of out; what lies behind it keeps its numbers. Refuses
+ * 10, and 12 where out is shorter than times. */
+lax_filled lax_track_values_at(lax_track t, const float *times, size_t times_len, float *out, size_t out_len);
+
+lax_value lax_track_active_time(lax_track t);       /* where in a pass, in seconds */
+lax_value lax_track_duration(lax_track t);          /* of one pass: the last frame's time */
+lax_value lax_track_playback_duration(lax_track t); /* of all passes; infinity where there is no end */
+lax_value lax_track_progress(lax_track t);          /* of all passes, or of this one where there is no end */
+lax_flag lax_track_is_complete(lax_track t);        /* 1 with fewer than two frames, too */
+
+lax_track_changed lax_track_reset(lax_track t);
+lax_track_changed lax_track_seek_to(lax_track t, float progress); /* measured as progress is; refuses 1 */
+
+/* A step of so many seconds; NaN and what is below 0 count as 0. Changes nothing once complete or
+ * with fewer than two frames. Refuses 5, 6, and 8 in the modes without an end. */
+lax_track_updated lax_track_update(lax_track t, float step);
 
 #ifdef __cplusplus
 }

@@ -1,9 +1,10 @@
-/* A ramp from 10 to 20 in 4 s, there and back twice, sampled each second. */
+/* A ramp from 10 to 20 in 4 s, there and back twice, sampled each second; then a track of four frames,
+ * sampled at many times at once. */
 #include <stdio.h>
 
 #include "laxombiit.h"
 
-int main(void)
+static uint32_t run_ramp(void)
 {
     lax_tween ramp = lax_tween_new(10.0f, 20.0f);
     int second;
@@ -15,11 +16,45 @@ int main(void)
     for (second = 1; second <= 16; second++) {
         lax_updated u = lax_tween_update(ramp, 1.0f);
         if (u.number != LAX_OK) {
-            printf("refused %u\n", (unsigned)u.number);
-            return 1;
+            return u.number;
         }
         ramp = u.tween;
         printf("%2d s  %7.4f  folds %u\n", second, (double)lax_tween_value(ramp).value, (unsigned)u.folds);
     }
-    return 0;
+    return LAX_OK;
+}
+
+static uint32_t sample_track(void)
+{
+    const float frame[4][2] = {{0.0f, 0.0f}, {1.0f, 8.0f}, {3.0f, 8.0f}, {4.0f, 2.0f}};
+    const float times[5] = {0.5f, 1.0f, 2.0f, 3.75f, 9.0f};
+    float values[5];
+    lax_track_changed c;
+    lax_filled f;
+    size_t k;
+
+    c.track = lax_track_new();
+    for (k = 0; k < 4; k++) {
+        c = lax_track_push(c.track, frame[k][0], frame[k][1]);
+        if (c.number != LAX_OK) {
+            return c.number;
+        }
+    }
+    f = lax_track_values_at(c.track, times, 5, values, 5);
+    for (k = 0; k < f.filled; k++) {
+        printf("at %.2f s  %.4f\n", (double)times[k], (double)values[k]);
+    }
+    return f.number;
+}
+
+int main(void)
+{
+    uint32_t number = run_ramp();
+    if (number == LAX_OK) {
+        number = sample_track();
+    }
+    if (number != LAX_OK) {
+        printf("refused %u\n", (unsigned)number);
+    }
+    return number != LAX_OK;
 }

@@ -84,6 +84,46 @@ pub struct LaxRun {
     pub tween: LaxTween,
 }
 
+pub const FRAMES: usize = 64;
+
+#[repr(C)]
+#[derive(Clone, Copy)]
+pub struct LaxKeyframe {
+    pub time: f32,
+    pub value: f32,
+    pub easing: LaxEasing,
+}
+
+#[repr(C)]
+#[derive(Clone, Copy)]
+pub struct LaxTrack {
+    pub frames: [LaxKeyframe; FRAMES],
+    pub count: u32,
+    pub elapsed: f32,
+    pub looping: LaxLoop,
+    pub loop_count: u32,
+    pub complete: u32,
+}
+
+#[repr(C)]
+pub struct LaxTrackChanged {
+    pub number: u32,
+    pub track: LaxTrack,
+}
+
+#[repr(C)]
+pub struct LaxTrackUpdated {
+    pub number: u32,
+    pub running: u32,
+    pub track: LaxTrack,
+}
+
+#[repr(C)]
+pub struct LaxFilled {
+    pub filled: usize,
+    pub number: u32,
+}
+
 const _: () = {
     use std::mem::size_of;
     assert!(size_of::<LaxEasing>() == 24);
@@ -96,6 +136,11 @@ const _: () = {
     assert!(size_of::<LaxChanged>() == 76);
     assert!(size_of::<LaxUpdated>() == 84);
     assert!(size_of::<LaxRun>() == 88);
+    assert!(size_of::<LaxKeyframe>() == 32);
+    assert!(size_of::<LaxTrack>() == 2072);
+    assert!(size_of::<LaxTrackChanged>() == 2076);
+    assert!(size_of::<LaxTrackUpdated>() == 2080);
+    assert!(size_of::<LaxFilled>() == 16);
 };
 
 extern "C" {
@@ -125,4 +170,26 @@ extern "C" {
         folds: *mut u32,
         folds_len: usize,
     ) -> LaxRun;
+
+    pub fn lax_track_new() -> LaxTrack;
+    pub fn lax_track_push(t: LaxTrack, time: f32, value: f32) -> LaxTrackChanged;
+    pub fn lax_track_push_eased(t: LaxTrack, time: f32, value: f32, e: LaxEasing) -> LaxTrackChanged;
+    pub fn lax_track_looping(t: LaxTrack, mode: LaxLoop) -> LaxTrackChanged;
+    pub fn lax_track_value_at(t: LaxTrack, secs: f32) -> LaxValue;
+    pub fn lax_track_value(t: LaxTrack) -> LaxValue;
+    pub fn lax_track_values_at(
+        t: LaxTrack,
+        times: *const f32,
+        times_len: usize,
+        out: *mut f32,
+        out_len: usize,
+    ) -> LaxFilled;
+    pub fn lax_track_active_time(t: LaxTrack) -> LaxValue;
+    pub fn lax_track_duration(t: LaxTrack) -> LaxValue;
+    pub fn lax_track_playback_duration(t: LaxTrack) -> LaxValue;
+    pub fn lax_track_progress(t: LaxTrack) -> LaxValue;
+    pub fn lax_track_is_complete(t: LaxTrack) -> LaxFlag;
+    pub fn lax_track_reset(t: LaxTrack) -> LaxTrackChanged;
+    pub fn lax_track_seek_to(t: LaxTrack, progress: f32) -> LaxTrackChanged;
+    pub fn lax_track_update(t: LaxTrack, step: f32) -> LaxTrackUpdated;
 }

@@ -1,4 +1,4 @@
-//! Proved easings and tweens, with animato's names. Each call answers a `Result`:
+//! Proved easings, tweens and keyframe tracks, with animato's names. Each call answers a `Result`:
 //! what is refused is refused by number, exactly when the rules say, and a refused call changes
 //! nothing. What is promised, and where it is proved, stands in the repository's
 //! docs/CONTRACTS.md.
@@ -7,8 +7,14 @@
 mod easing;
 mod ffi;
 mod refusal;
+mod track;
 mod tween;
 
 pub use easing::Easing;
 pub use refusal::Refusal;
+pub use track::{Keyframe, Track};
 pub use tween::{Loop, Stopped, Tween, TweenSnapshot, TweenState, Updated};
+
+#[cfg(doctest)]
+#[doc = include_str!("../README.md")]
+struct Readme;

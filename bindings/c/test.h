@@ -1,0 +1,24 @@
+/* What the parts of the C test share. */
+#ifndef TEST_H
+#define TEST_H
+
+#include <math.h>
+#include <string.h>
+
+#include "laxombiit.h"
+
+/* Counts what holds, and prints what does not. */
+void check(int holds, const char *file, int line, const char *what);
+
+#define CHECK(x) check((x), __FILE__, __LINE__, #x)
+
+lax_easing kind(uint32_t k);
+lax_easing steps(uint32_t n);
+int value_is(lax_value v, float x);
+int refused(lax_value v, uint32_t number);
+
+void test_easings(void);
+void test_tweens(void);
+void test_tracks(void);
+
+#endif

@@ -1,0 +1,291 @@
+//! Every call of a track: ordinary, edge and refused input.
+use laxombiit::{Easing, Keyframe, Loop, Refusal, Track};
+
+const LIMIT: f32 = 16_777_216.0;
+/// The next f32.
+const BEYOND: f32 = 16_777_218.0;
+
+fn linear(time: f32, value: f32) -> Keyframe {
+    Keyframe { time, value, easing: Easing::Linear }
+}
+
+/// (0, 0) and (2, 8), with this on the clock.
+fn pair(looping: Loop, elapsed: f32) -> Track {
+    Track::from_parts(&[linear(0.0, 0.0), linear(2.0, 8.0)], elapsed, looping, 0, false).unwrap()
+}
+
+/// A frame each second from 0 on, each 10 above the one before.
+fn ladder(count: u32) -> Vec<Keyframe> {
+    (0..count).map(|k| linear(k as f32, 10.0 * k as f32)).collect()
+}
+
+fn clock(t: &Track) -> (f32, u32, bool) {
+    (t.elapsed(), t.loop_count(), t.complete())
+}
+
+#[test]
+fn new() {
+    let t = Track::new();
+    assert_eq!((t.frames().len(), t.loop_mode(), clock(&t)), (0, Loop::Once, (0.0, 0, false)));
+    assert_eq!(t, Track::default());
+    assert_eq!(t, Track::from_parts(&[], 0.0, Loop::Once, 0, false).unwrap());
+}
+
+#[test]
+fn push() {
+    let mut t = Track::new();
+    t.push(2.0, 8.0).unwrap().push(-0.0, 0.0).unwrap();
+    assert_eq!(t, pair(Loop::Once, 0.0));
+    assert!(t.frames().next().unwrap().time.is_sign_positive());
+    assert_eq!(t.value_at(1.0), Ok(4.0));
+    t.push(2.0, 6.0).unwrap();
+    assert_eq!(t.frames().collect::<Vec<_>>(), [linear(0.0, 0.0), linear(2.0, 6.0)]);
+    t.push_eased(0.0, 0.0, Easing::EaseInQuad).unwrap();
+    assert_eq!(t.value_at(1.0), Ok(1.5));
+    t.push_eased(0.0, 0.0, Easing::Steps(4)).unwrap();
+    assert_eq!(t.value_at(0.25), Ok(1.5));
+    assert_eq!(t.frames().map(|k| k.easing).collect::<Vec<_>>(), [Easing::Steps(4), Easing::Linear]);
+}
+
+#[test]
+fn push_and_looping_clear_completion_alone() {
+    let frames = [linear(0.0, 0.0), linear(2.0, 8.0)];
+    let done = Track::from_parts(&frames, 1.5, Loop::Once, 7, true).unwrap();
+    let mut t = done.clone();
+    t.push(1.0, 1.0).unwrap();
+    assert_eq!(clock(&t), (1.5, 7, false));
+    let mut t = done.clone();
+    t.looping(Loop::Times(3)).unwrap();
+    assert_eq!((t.loop_mode(), clock(&t)), (Loop::Times(3), (1.5, 7, false)));
+}
+
+#[test]
+fn push_until_full() {
+    let mut t = Track::new();
+    for k in (0..64).map(|k| 37 * k % 64) {
+        t.push(k as f32, 10.0 * k as f32).unwrap();
+    }
+    assert_eq!(t, Track::from_parts(&ladder(64), 0.0, Loop::Once, 0, false).unwrap());
+    for k in 0..126 {
+        assert_eq!(t.value_at(0.5 * k as f32), Ok(5.0 * k as f32));
+    }
+    let before = t.clone();
+    assert_eq!(t.push(31.5, 0.0).err(), Some(Refusal::TrackFull));
+    assert_eq!(t.push_eased(64.0, 0.0, Easing::EaseInQuad).err(), Some(Refusal::TrackFull));
+    assert_eq!(t, before);
+    t.push(63.0, -1.0).unwrap();
+    assert_eq!((t.frames().len(), t.frames().last()), (64, Some(linear(63.0, -1.0))));
+    t.looping(Loop::Times(1000)).unwrap();
+    assert_eq!(t.push(20_000.0, 0.0).err(), Some(Refusal::TrackLimit));
+    assert_eq!(t.push(100.0, 0.0).err(), Some(Refusal::TrackFull));
+}
+
+#[test]
+fn push_refuses_and_leaves_the_track() {
+    let mut t = pair(Loop::Once, 0.0);
+    for time in [f32::NAN, f32::INFINITY, f32::NEG_INFINITY, -1.0, BEYOND] {
+        assert_eq!(t.push(time, 1.0).err(), Some(Refusal::TrackLimit));
+        assert_eq!(t.push_eased(time, 1.0, Easing::EaseInQuad).err(), Some(Refusal::TrackLimit));
+    }
+    for value in [f32::NAN, f32::INFINITY, f32::NEG_INFINITY, BEYOND, -BEYOND] {
+        assert_eq!(t.push(1.0, value).err(), Some(Refusal::TrackLimit));
+        assert_eq!(t.push_eased(1.0, value, Easing::EaseInQuad).err(), Some(Refusal::TrackLimit));
+    }
+    assert_eq!(t.push_eased(f32::NAN, 1.0, Easing::EaseInSine).err(), Some(Refusal::EasingNotSupplied));
+    assert_eq!(t.push_eased(f32::NAN, 1.0, Easing::Steps(65_537)).err(), Some(Refusal::EasingParameter));
+    assert_eq!(t, pair(Loop::Once, 0.0));
+    assert!(t.push(LIMIT, -LIMIT).is_ok());
+}
+
+#[test]
+fn looping_refuses_and_leaves_the_track() {
+    let mut t = pair(Loop::Forever, 0.0);
+    t.push(257.0, 0.0).unwrap();
+    let before = t.clone();
+    assert_eq!(t.looping(Loop::Times(65_536)).err(), Some(Refusal::TrackLimit));
+    assert_eq!(t.looping(Loop::PingPongTimes(65_282)).err(), Some(Refusal::TrackLimit));
+    assert_eq!(t, before);
+    // 16,777,217, which rounds to the limit
+    assert!(t.looping(Loop::PingPongTimes(65_281)).is_ok());
+    assert_eq!(t.push(258.0, 0.0).err(), Some(Refusal::TrackLimit));
+}
+
+#[test]
+fn value_at() {
+    let t = pair(Loop::Once, 1.0);
+    for (secs, value) in [(1.0, 4.0), (2.0, 8.0), (f32::INFINITY, 8.0), (f32::NAN, 0.0), (-0.0, 0.0), (-1.0, 0.0)] {
+        assert_eq!(t.value_at(secs), Ok(value));
+    }
+    assert_eq!(t.value(), Ok(4.0));
+    // a frame's own time is the start of its interval: 1e7 + (0.1 - 1e7) would be 0
+    let steep = [linear(0.0, 1e7), linear(1.0, 0.1), linear(2.0, 8.0)];
+    assert_eq!(Track::from_parts(&steep, 0.0, Loop::Once, 0, false).unwrap().value_at(1.0), Ok(0.1));
+    let one = Track::from_parts(&[linear(5.0, 3.0)], 0.0, Loop::Once, 0, false).unwrap();
+    assert_eq!((one.value_at(0.0), one.value_at(9.0), one.value()), (Ok(3.0), Ok(3.0), Ok(3.0)));
+    assert_eq!(Track::new().value_at(0.0), Err(Refusal::NoFrames));
+    assert_eq!(Track::new().value(), Err(Refusal::NoFrames));
+}
+
+#[test]
+fn values_at() {
+    let t = pair(Loop::Once, 0.0);
+    let times = [1.0, f32::NAN, f32::INFINITY];
+    let mut out = [-1.0; 5];
+    assert_eq!(t.values_at(&times, &mut out[..2]), Err(Refusal::OutputTooShort));
+    assert_eq!(Track::new().values_at(&times, &mut out[..2]), Err(Refusal::NoFrames));
+    assert_eq!(Track::new().values_at(&[], &mut []), Err(Refusal::NoFrames));
+    assert_eq!(pair(Loop::Once, -1.0).values_at(&times, &mut out), Err(Refusal::RecordBreaksLimit));
+    assert_eq!(t.values_at(&[], &mut out).unwrap(), []);
+    assert_eq!(out, [-1.0; 5]);
+    assert_eq!(t.values_at(&times, &mut out).unwrap(), [4.0, 0.0, 8.0]);
+    assert_eq!(out, [4.0, 0.0, 8.0, -1.0, -1.0]);
+    assert_eq!(t.values_at(&times, &mut out[..3]).unwrap().len(), 3);
+}
+
+#[test]
+fn reads() {
+    let t = pair(Loop::Times(3), 5.0);
+    assert_eq!((t.duration(), t.playback_duration()), (Ok(2.0), Ok(6.0)));
+    assert_eq!((t.active_time(), t.progress(), t.value()), (Ok(1.0), Ok(5.0 / 6.0), Ok(4.0)));
+    assert_eq!(t.is_complete(), Ok(false));
+    let t = pair(Loop::PingPong, 3.5);
+    assert_eq!((t.active_time(), t.progress()), (Ok(0.5), Ok(0.25)));
+    assert_eq!(t.playback_duration(), Ok(f32::INFINITY));
+    assert_eq!(pair(Loop::PingPongTimes(2), 3.5).active_time(), Ok(0.5));
+    assert_eq!(pair(Loop::Forever, 3.5).active_time(), Ok(1.5));
+    let t = pair(Loop::Once, 3.5);
+    assert_eq!((t.active_time(), t.progress()), (Ok(2.0), Ok(1.0)));
+}
+
+#[test]
+fn reads_without_frames() {
+    for looping in [Loop::Once, Loop::Forever] {
+        let mut t = Track::new();
+        t.looping(looping).unwrap();
+        assert_eq!((t.duration(), t.playback_duration(), t.active_time()), (Ok(0.0), Ok(0.0), Ok(0.0)));
+        assert_eq!((t.progress(), t.is_complete()), (Ok(1.0), Ok(true)));
+    }
+}
+
+#[test]
+fn update() {
+    let mut t = pair(Loop::Times(3), 0.0);
+    assert_eq!((t.update(5.0), clock(&t)), (Ok(true), (5.0, 2, false)));
+    assert_eq!((t.update(LIMIT), clock(&t)), (Ok(false), (6.0, 3, true)));
+    assert_eq!((t.active_time(), t.is_complete()), (Ok(2.0), Ok(true)));
+    assert_eq!((t.update(1.0), clock(&t)), (Ok(false), (6.0, 3, true)));
+    let mut t = pair(Loop::PingPongTimes(0), 0.0);
+    assert_eq!((t.update(2.0), clock(&t)), (Ok(false), (2.0, 1, true)));
+    let mut t = pair(Loop::PingPongTimes(2), 0.0);
+    assert_eq!((t.update(4.0), clock(&t), t.value()), (Ok(false), (4.0, 2, true), Ok(0.0)));
+    for step in [f32::NAN, -1.0, -0.0] {
+        let mut t = pair(Loop::Once, 0.0);
+        assert_eq!((t.update(step), clock(&t)), (Ok(true), (0.0, 0, false)));
+    }
+    let mut few = Track::new();
+    few.push(1.0, 3.0).unwrap();
+    assert_eq!((few.update(1.0), clock(&few)), (Ok(false), (0.0, 0, false)));
+}
+
+#[test]
+fn update_counts_before_the_cut() {
+    let mut t = Track::new();
+    t.push(0.0, 0.0).unwrap().push(1.0, 1.0).unwrap();
+    assert_eq!((t.update(3.5), clock(&t)), (Ok(false), (1.0, 3, true)));
+}
+
+#[test]
+fn update_refuses_and_leaves_the_track() {
+    let refused = |elapsed, looping, step, refusal| {
+        let mut t = pair(looping, elapsed);
+        assert_eq!(t.update(step), Err(refusal));
+        assert_eq!(t, pair(looping, elapsed));
+    };
+    refused(524_288.0, Loop::Forever, 0.02, Refusal::StepLost);
+    refused(LIMIT, Loop::Forever, 1.0, Refusal::StepLost);
+    refused(LIMIT, Loop::Forever, 2.0, Refusal::ElapsedTooLong);
+    refused(LIMIT, Loop::PingPong, 2.0, Refusal::ElapsedTooLong);
+    refused(0.0, Loop::Once, BEYOND, Refusal::StepTooLong);
+    assert_eq!(Track::new().update(f32::INFINITY), Err(Refusal::StepTooLong));
+}
+
+#[test]
+fn reset_and_seek_to() {
+    let mut t = pair(Loop::Times(3), 5.0);
+    t.update(1.0).unwrap();
+    t.reset().unwrap();
+    assert_eq!(clock(&t), (0.0, 0, false));
+    for (progress, elapsed, loop_count) in [(0.5, 3.0, 1), (1.0, 6.0, 3), (7.0, 6.0, 3), (-1.0, 0.0, 0)] {
+        t.seek_to(progress).unwrap();
+        assert_eq!(clock(&t), (elapsed, loop_count, progress >= 1.0));
+    }
+    assert_eq!(t.seek_to(f32::NAN), Err(Refusal::ProgressIsNan));
+    let mut t = pair(Loop::PingPong, 0.0);
+    t.seek_to(1.0).unwrap();
+    assert_eq!(clock(&t), (2.0, 1, false));
+    let mut none = Track::new();
+    none.seek_to(0.5).unwrap();
+    assert_eq!(clock(&none), (0.0, 0, true));
+}
+
+/// Each breaks one limit.
+fn broken() -> [Track; 12] {
+    let records: [([Keyframe; 2], f32, Loop); 12] = [
+        ([linear(0.0, 0.0), linear(0.0, 1.0)], 0.0, Loop::Once),
+        ([linear(2.0, 0.0), linear(1.0, 1.0)], 0.0, Loop::Once),
+        ([linear(-0.0, 0.0), linear(1.0, 1.0)], 0.0, Loop::Once),
+        ([linear(0.0, 0.0), linear(f32::NAN, 1.0)], 0.0, Loop::Once),
+        ([linear(0.0, 0.0), linear(BEYOND, 1.0)], 0.0, Loop::Forever),
+        ([linear(0.0, 0.0), linear(LIMIT, 1.0)], 0.0, Loop::Times(2)),
+        ([linear(0.0, f32::NAN), linear(1.0, 1.0)], 0.0, Loop::Once),
+        ([linear(0.0, 0.0), linear(1.0, -BEYOND)], 0.0, Loop::Once),
+        ([linear(0.0, 0.0), Keyframe { easing: Easing::EaseInSine, ..linear(1.0, 1.0) }], 0.0, Loop::Once),
+        ([linear(0.0, 0.0), Keyframe { easing: Easing::Steps(65_537), ..linear(1.0, 1.0) }], 0.0, Loop::Once),
+        ([linear(0.0, 0.0), linear(1.0, 1.0)], -1.0, Loop::Once),
+        ([linear(0.0, 0.0), linear(1.0, 1.0)], 0.0, Loop::PingPongTimes(65_536)),
+    ];
+    records.map(|(frames, elapsed, mode)| Track::from_parts(&frames, elapsed, mode, 0, false).unwrap())
+}
+
+#[test]
+fn a_record_beyond_its_limits_is_refused_by_every_call() {
+    let four = Refusal::RecordBreaksLimit;
+    for mut t in broken() {
+        let before = format!("{t:?}");
+        assert_eq!(t.push(f32::NAN, 0.0).err(), Some(four));
+        assert_eq!(t.push_eased(0.0, 0.0, Easing::EaseInSine).err(), Some(four));
+        assert_eq!(t.looping(Loop::Times(65_536)).err(), Some(four));
+        assert_eq!((t.value_at(1.0), t.value()), (Err(four), Err(four)));
+        assert_eq!(t.values_at(&[1.0], &mut []), Err(four));
+        assert_eq!((t.active_time(), t.duration()), (Err(four), Err(four)));
+        assert_eq!((t.playback_duration(), t.progress()), (Err(four), Err(four)));
+        assert_eq!(t.is_complete(), Err(four));
+        assert_eq!((t.reset(), t.seek_to(f32::NAN)), (Err(four), Err(four)));
+        assert_eq!(t.update(f32::INFINITY), Err(four));
+        assert_eq!(format!("{t:?}"), before);
+    }
+}
+
+#[test]
+fn from_parts_has_room_for_64() {
+    let t = Track::from_parts(&ladder(64), 0.0, Loop::Once, u32::MAX, true).unwrap();
+    assert_eq!((t.frames().len(), Track::FRAMES, clock(&t)), (64, 64, (0.0, u32::MAX, true)));
+    assert_eq!(t.frames().collect::<Vec<_>>(), ladder(64));
+    let long = Track::from_parts(&ladder(65), 0.0, Loop::Once, 0, false);
+    assert_eq!(long.err(), Some(Refusal::RecordBreaksLimit));
+}
+
+#[test]
+fn equality_is_of_the_parts() {
+    let t = pair(Loop::Once, 0.0);
+    let frames: Vec<_> = t.frames().collect();
+    let with = |elapsed, looping, loop_count, complete| {
+        Track::from_parts(&frames, elapsed, looping, loop_count, complete).unwrap()
+    };
+    assert_eq!(t, with(0.0, Loop::Once, 0, false));
+    assert_ne!(t, with(1.0, Loop::Once, 0, false));
+    assert_ne!(t, with(0.0, Loop::Times(1), 0, false));
+    assert_ne!(t, with(0.0, Loop::Once, 1, false));
+    assert_ne!(t, with(0.0, Loop::Once, 0, true));
+    assert_ne!(t, Track::from_parts(&frames[..1], 0.0, Loop::Once, 0, false).unwrap());
+}
