@@ -1,7 +1,14 @@
 -- What was written as words is read back as it was. Assumes nothing.
-use mathlib.Core.Path.{_≡_, refl}
-use mathlib.Core.Bool.{Bool, true, false, not}
-use lib.Dec.{eqb}
+use Prim.Native.Nat.{ℕ, _≤_}
+use native.Mathlib.Omega.{arith}
+use borrow.Author.Tests.{ltb-false}
+use mathlib.Core.Path.{_≡_, refl, ap, _∙_}
+use mathlib.Core.Bool.{Bool, true, false, not, cond}
+use mathlib.Core.List.{List, [], _∷_, _++_, map}
+use lib.Dec.{eqb, ltb}
+use lib.ListN.{length, length-map, take, drop}
+use lib.Seq.{length-take-le, take-at}
+use Rattle.math.proofs.Choice.{by-test}
 use Rattle.easing.specs.declared.kinds.Easing.{Easing}
 use Rattle.easing.specs.declared.kinds.Easing.the-variants.{Linear, EaseInQuad, EaseOutQuad, EaseInOutQuad, EaseInCubic, EaseOutCubic, EaseInOutCubic, EaseInQuart, EaseOutQuart, EaseInOutQuart, EaseInQuint, EaseOutQuint, EaseInOutQuint, EaseInSine, EaseOutSine, EaseInOutSine, EaseInExpo, EaseOutExpo, EaseInOutExpo, EaseInCirc, EaseOutCirc, EaseInOutCirc, EaseInBack, EaseOutBack, EaseInOutBack, EaseInElastic, EaseOutElastic, EaseInOutElastic, EaseInBounce, EaseOutBounce, EaseInOutBounce, CubicBezier, Steps, RoughEase, SlowMo, Wiggle, CustomBounce, ExpoScale}
 use Rattle.loop_mode.specs.declared.Loop.{Loop}
@@ -9,12 +16,17 @@ use Rattle.loop_mode.specs.declared.Loop.the-variants.{Once, Times, Forever, Pi
 use Rattle.tween.specs.declared.record.Tween.{Tween}
 use Rattle.tween.specs.declared.record.TweenState.{TweenState}
 use Rattle.tween.specs.declared.record.TweenState.the-variants.{Idle, Running, Paused, Completed}
+use Rattle.frames.specs.declared.frame.Keyframe.{Keyframe}
+use Rattle.keyframe.specs.declared.types.Track.{Track}
+use Rattle.words.specs.declared.kinds.EasingRead.{EasingRead}
 use Rattle.words.specs.declared.kinds.EasingRead.the-variants as kind
 use Rattle.words.specs.declared.modes.LoopRead.the-variants as mode
 use Rattle.words.specs.declared.modes.StateRead.the-variants as state
+use Rattle.words.specs.declared.tracks.LaxKeyframe.{LaxKeyframe}
 use Rattle.words.specs.declared.tweens.TweenRead.the-variants.{Known}
 use Rattle.words.specs.Kinds.{withParameters, easingFrom, easingWords}
 use Rattle.words.specs.Modes.{loopFrom, loopWords, stateFrom, stateWord, flagWord}
+use Rattle.words.specs.Tracks.{placesIn, blanks, knownKinds, knownTrack, frameFrom, framesFrom, trackFrom, frameWords, framesWords, trackWords}
 use Rattle.words.specs.Tweens.{tweenFrom, tweenWords}
 
 pub easing-back : (e : Easing) → easingFrom (easingWords e) ≡ kind.Known e
@@ -80,3 +92,66 @@ flag-back false = refl
 pub tween-back : (t : Tween) → tweenFrom (tweenWords t) ≡ Known t
 unfolding tweenFrom tweenWords
 tween-back t = rw (easing-back (t .easing), loop-back (t .looping), state-back (t .state), flag-back (t .«ping_pong_reverse»))
+
+-- a kind that is written is known
+kind-back : (e : Easing) → ltb (easingWords e .kind) 38 ≡ true
+unfolding easingFrom
+kind-back e = decided (ltb (easingWords e .kind) 38) _ e (easing-back e)
+  where
+    isKnown : EasingRead → Bool
+    isKnown (kind.Known x) = true
+    isKnown kind.Unknown = false
+
+    decided : (b : Bool) (x y : Easing) → cond b (kind.Known x) kind.Unknown ≡ kind.Known y → b ≡ true
+    decided true x y h = refl
+    decided false x y h = ap isKnown h
+
+frame-back : (k : Keyframe) → frameFrom (frameWords k) ≡ k
+unfolding frameFrom frameWords
+frame-back k = rw (easing-back (k .easing)) refl
+
+frames-back : (l : List Keyframe) → map frameFrom (map frameWords l) ≡ l
+frames-back [] = refl
+frames-back (k ∷ l) = rw (frame-back k, frames-back l) refl
+
+kinds-back : (l : List Keyframe) → knownKinds (map frameWords l) ≡ true
+unfolding knownKinds frameWords
+kinds-back [] = refl
+kinds-back (k ∷ l) = rw (kind-back (k .easing), kinds-back l) refl
+
+mode-back : (l : Loop) → ltb (loopWords l .mode) 5 ≡ true
+unfolding loopWords
+mode-back Once = refl
+mode-back (Times n) = refl
+mode-back Forever = refl
+mode-back PingPong = refl
+mode-back (PingPongTimes n) = refl
+
+-- t with blank places behind its frames
+abbrev pub cleared : Track → Track
+cleared t =
+    record {
+      frames = take (t .count) (t .frames) ++ drop (t .count) blanks;
+      count = t .count;
+      elapsed = t .elapsed;
+      looping = t .looping;
+      «loop_count» = t .«loop_count»;
+      complete = t .complete;
+    }
+
+module _ (came : List LaxKeyframe) (t : Track) (long : length (t .frames) ≡ 64) (fit : t .count ≤ 64) where
+  all-places : (n : ℕ) → n ≤ 64 → placesIn n ≡ n
+  all-places n h = by-test (λ (m : ℕ). m ≡ n) (ltb n 64) n 64 (λ _. refl) (λ e. omega (arith, h, ltb-false n 64 e))
+
+  -- the frames among the words
+  written : take (t .count) (framesWords came (t .frames) (t .count)) ≡ map frameWords (take (t .count) (t .frames))
+  unfolding framesWords
+  written = rw (all-places (t .count) fit) (take-at (map frameWords (take (t .count) (t .frames))) (drop (t .count) came) (t .count) (length-map (take (t .count) (t .frames)) frameWords ∙ length-take-le (t .count) (t .frames) (omega (arith, long, fit))))
+
+  pub track-back : trackFrom (trackWords came t) ≡ cleared t
+  unfolding trackFrom trackWords framesFrom
+  track-back = rw (all-places (t .count) fit, all-places (t .count) fit, written, frames-back (take (t .count) (t .frames)), loop-back (t .looping), flag-back (t .complete)) refl
+
+  pub track-known : knownTrack (trackWords came t) ≡ true
+  unfolding knownTrack trackWords
+  track-known = rw (all-places (t .count) fit, all-places (t .count) fit, written, kinds-back (take (t .count) (t .frames)), mode-back (t .looping)) refl

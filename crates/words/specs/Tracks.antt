@@ -45,10 +45,12 @@ loopIn mode.Unknown = Once
 unfoldable pub frameFrom : LaxKeyframe → Keyframe
 frameFrom w = record { time = w .time; value = w .value; easing = easingIn (easingFrom (w .easing)) }
 
+abbrev pub blanks : List Keyframe
+blanks = replicate 64 (record { time = zeroF; value = zeroF; easing = Linear })
+
 -- the places behind the frames are not looked at
 unfoldable pub framesFrom : List LaxKeyframe → ℕ → List Keyframe
-framesFrom ws count =
-    map frameFrom (take (placesIn count) ws) ++ drop (placesIn count) (replicate 64 (record { time = zeroF; value = zeroF; easing = Linear }))
+framesFrom ws count = map frameFrom (take (placesIn count) ws) ++ drop (placesIn count) blanks
 
 unfoldable pub trackFrom : LaxTrack → Track
 trackFrom w =
