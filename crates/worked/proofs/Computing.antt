@@ -1,9 +1,16 @@
--- What an example is computed with: `unfolding computing` opens all of it.
+-- What an example is computed with: `unfold computing in` opens all of it.
 use lib.Ieee.{add, sub, mul, div, neg, sum, lt, le, eq, isNan, round, ofInt, ofBits, toUnsigned}
+use Rattle.bezier.specs.Bezier.{foundOf, cubicBezier}
+use Rattle.bezier.specs.Curve.{sampleCubicOf, sampleCubicDerivativeOf}
+use Rattle.bezier.specs.Search.{turnOf, bisectOf, newtonOf}
 use Rattle.easing.specs.Kinds.{curveOf, suppliedOf}
 use Rattle.easing.specs.Params.{paramsOf, withinOf as paramsWithin}
 use Rattle.easing.specs.Apply.{applyOf, fitsRecordOf}
 use Rattle.loop_mode.specs.Passes.{withinOf as modeWithin}
+use Rattle.tween.specs.Limits.{settingsWithin, clockWithin, withinOf as tweenWithin}
+use Rattle.tween.specs.Calls.{valueOf, resetOf}
+use Rattle.tween.specs.Folds.{foldOnce, due, foldsOf}
+use Rattle.tween.specs.Update.{folded, advanced, waitOf, runOf, byState, updateOf as tweenUpdate}
 use Rattle.frames.specs.Limits.{timeOf, frameOf, framesAfter}
 use Rattle.frames.specs.Sampling.{durationOf, betweenOf, leading, sampleOf}
 use Rattle.frames.specs.Pushing.{pushedOf, putOf}
@@ -12,6 +19,14 @@ use Rattle.keyframe.specs.Pushing.{newTrack, takesOf, placedOf, pushOf, looping
 use Rattle.keyframe.specs.Sampling.{valueAtOf}
 use Rattle.keyframe.specs.Stepping.{finalOf, advanceOf, updateOf as trackUpdate}
 
-unfoldable pub computing : Unit {0}
-unfolding newTrack pushOf takesOf placedOf putOf pushedOf trackWithin clockFits modeFits endOf framesAfter frameOf timeOf fitsRecordOf suppliedOf curveOf paramsOf paramsWithin modeWithin durationOf valueAtOf sampleOf betweenOf leading applyOf loopingOf finalOf advanceOf trackUpdate add sub mul div neg sum lt le eq isNan round ofInt ofBits toUnsigned
-computing = tt
+unfoldable pub easings : Unit {0}
+unfolding cubicBezier foundOf newtonOf bisectOf turnOf sampleCubicOf sampleCubicDerivativeOf curveOf suppliedOf paramsOf paramsWithin applyOf fitsRecordOf add sub mul div neg sum lt le eq isNan round ofInt ofBits toUnsigned
+easings = tt
+
+unfoldable pub tweens : Unit {0}
+unfolding easings modeWithin settingsWithin clockWithin tweenWithin valueOf resetOf foldOnce due foldsOf folded advanced waitOf runOf byState tweenUpdate
+tweens = tt
+
+unfoldable pub tracks : Unit {0}
+unfolding easings modeWithin timeOf frameOf framesAfter durationOf betweenOf leading sampleOf pushedOf putOf endOf modeFits clockFits trackWithin newTrack takesOf placedOf pushOf loopingOf valueAtOf finalOf advanceOf trackUpdate
+tracks = tt

@@ -1,7 +1,7 @@
 -- `k3` answers true, by computation. Assumes nothing.
 use mathlib.Core.Path.{refl}
 use borrow.Author.Needs.{needs}
-use Rattle.worked.proofs.Computing.{computing}
+use Rattle.worked.proofs.Computing.{tracks}
 use Rattle.worked.proofs.tracks.k3.Statement.{statement}
 use Rattle.worked.proofs.tracks.k3.Tie as tie
 
@@ -14,4 +14,4 @@ k3-spec =
     (λ c κs. search needs)
     (λ c κs. search needs)
     (λ c κs. search needs)
-    (λ c. rw (c .is-refused .ensures, c .before .update2 .ensures, c .before .before .update .ensures, c .before .before .before .looping .ensures, c .before .before .before .before .ramp .ensures) (unfold computing in refl)))
+    (λ c. rw (c .is-refused .ensures, c .before .update2 .ensures, c .before .before .update .ensures, c .before .before .before .looping .ensures, c .before .before .before .before .ramp .ensures) (unfold tracks in refl)))
