@@ -3,8 +3,7 @@ use Prim.Native.Nat.{ℕ}
 use mathlib.Core.Path.{_≡_}
 use mathlib.Core.Bool.{true, false}
 use mathlib.Core.List.{List, [], _∷_}
-use lib.IntN.{pos}
-use lib.Ieee.{Float, binary32, round, ofInt}
+use lib.Ieee.{Float, binary32, round}
 use Rattle.math.specs.Rounded.{oneF, zeroF}
 use Rattle.refusal.specs.Number.{numberOf}
 use Rattle.curves.specs.Stairs.{jumpEndOf}
@@ -28,9 +27,8 @@ infix 8 _÷_
 abbrev pub _÷_ : ℕ → ℕ → Float
 m ÷ n = round binary32 false m n
 
--- the f32 that is the whole number n
 abbrev pub whole : ℕ → Float
-whole n = ofInt binary32 (pos n)
+whole n = n ÷ 1
 
 -- what is said of the answer to a step, in whole numbers
 pub data Said : Type 0 where

@@ -1,8 +1,6 @@
 // K1, K2 and K3: whether the library gives the answers that were worked out by hand.
 ghost use mathlib.Core.Path.{_≡_};
 ghost use mathlib.Core.Bool.{true};
-ghost use Rattle.easing.specs.declared.kinds.Easing.the-variants.{Linear};
-ghost use Rattle.keyframe.specs.Pushing.{newTrack, pushOf};
 ghost use Rattle.worked.specs.Answers.{pushed, ramp};
 use crate::answers::is_refused;
 use crate::answers::is_value;
