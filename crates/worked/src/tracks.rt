@@ -2,11 +2,10 @@
 ghost use mathlib.Core.Path.{_≡_};
 ghost use mathlib.Core.Bool.{true};
 ghost use Rattle.worked.specs.Answers.{pushed, ramp};
-use crate::answers::is_refused;
-use crate::answers::is_value;
+use crate::answers::gives;
+use crate::answers::refuses;
 use keyframe::Track;
 use loop_mode::Loop;
-use units::Seconds;
 
 fn pushed(track: Track, time: f32, value: f32) -> Track
     ensures { λ r. ⌜ r ≡ pushed track time value ⌝ }
@@ -15,7 +14,7 @@ fn pushed(track: Track, time: f32, value: f32) -> Track
     answer.track
 }
 
-// Linear, from 0 at 0 s to a value at a time.
+// Once and Linear, from 0 at 0 s to a value at a time.
 fn ramp(time: f32, value: f32) -> Track
     ensures { λ r. ⌜ r ≡ ramp time value ⌝ }
 {
@@ -29,11 +28,10 @@ pub fn k1() -> bool
     let first = ramp(2.0, 8.0);
     let second = pushed(first, 2.0, 6.0);
     let nan = 0.0f32 / 0.0;
-    let infinity = math::infinity();
-    is_value(first.value_at(Seconds(1.0)), 4.0)
-        & is_value(second.value_at(Seconds(1.0)), 3.0)
-        & is_value(second.value_at(Seconds(nan)), 0.0)
-        & is_value(second.value_at(Seconds(infinity)), 6.0)
+    gives(first, 1.0, 4.0)
+        & gives(second, 1.0, 3.0)
+        & gives(second, nan, 0.0)
+        & gives(second, math::infinity(), 6.0)
 }
 
 // Once, last time 1, a step of 3.5: elapsed 1, complete, loop_count 3.
@@ -45,13 +43,11 @@ pub fn k2() -> bool
     (track.elapsed == 1.0) & track.complete & (track.loop_count == 3)
 }
 
-// Forever, at 524,288 s, a step of 0.02: refused 6.
+// Forever, elapsed 524,288, a step of 0.02: refused 6.
 pub fn k3() -> bool
     ensures { λ r. ⌜ r ≡ true ⌝ }
 {
     let endless = ramp(1.0, 1.0).looping(Loop::Forever);
     let late = endless.track.update(524288.0);
-    let answer = late.track.update(0.02);
-    let stepped = answer.stepped;
-    is_refused(stepped, 6)
+    refuses(late.track, 0.02, 6)
 }

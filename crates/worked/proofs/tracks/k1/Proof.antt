@@ -16,13 +16,6 @@ k1-spec =
     (λ c κs. search needs)
     (λ c κs. search needs)
     (λ c κs. search needs)
-    (λ c κs. search needs)
-    (λ c κs. search needs)
-    (λ c κs. search needs)
-    (λ c κs. search needs)
     (λ c.
-    let b4 = c .before in
-    let b3 = b4 .before .before in
-    let b2 = b3 .before .before in
-    let b1 = b2 .before .before in
-    rw (c .is-value4 .ensures, b4 .before .is-value3 .ensures, b3 .before .is-value2 .ensures, b2 .before .is-value .ensures, b4 .value-at4 .ensures, b3 .value-at3 .ensures, b2 .value-at2 .ensures, b1 .value-at .ensures, b1 .before .infinity .ensures, b1 .before .before .pushed .ensures, b1 .before .before .before .ramp .ensures) (unfold tracks in refl)))
+    let b = c .before .before .before .before in
+    rw (b .gives .ensures, c .before .before .before .gives2 .ensures, c .before .before .gives3 .ensures, c .gives4 .ensures, c .before .infinity .ensures, b .before .pushed .ensures, b .before .before .ramp .ensures) (unfold tracks in refl)))

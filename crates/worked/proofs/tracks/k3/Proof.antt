@@ -13,5 +13,4 @@ k3-spec =
     (λ c κs. search needs)
     (λ c κs. search needs)
     (λ c κs. search needs)
-    (λ c κs. search needs)
-    (λ c. rw (c .is-refused .ensures, c .before .update2 .ensures, c .before .before .update .ensures, c .before .before .before .looping .ensures, c .before .before .before .before .ramp .ensures) (unfold tracks in refl)))
+    (λ c. rw (c .refuses .ensures, c .before .update .ensures, c .before .before .looping .ensures, c .before .before .before .ramp .ensures) (unfold tracks in refl)))
