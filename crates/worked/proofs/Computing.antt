@@ -1,9 +1,9 @@
--- What an example is computed with: `unfold computing in` opens all of it.
-use lib.Ieee.{add, sub, mul, div, neg, sum, lt, le, eq, isNan, round, ofInt, ofBits, toUnsigned}
+-- The definitions that the examples compute with: to unfold `easings`, `tweens` or `tracks` is to unfold those of that layer and below.
+use lib.Ieee.{sub, mul, div, le, isNan, ofInt, ofBits, toUnsigned}
 use Rattle.bezier.specs.Bezier.{foundOf, cubicBezier}
-use Rattle.bezier.specs.Curve.{sampleCubicOf, sampleCubicDerivativeOf}
-use Rattle.bezier.specs.Search.{turnOf, bisectOf, newtonOf}
-use Rattle.easing.specs.Kinds.{curveOf, suppliedOf}
+use Rattle.bezier.specs.Curve.{sampleCubicOf}
+use Rattle.bezier.specs.Search.{turnOf, newtonOf}
+use Rattle.easing.specs.Kinds.{suppliedOf}
 use Rattle.easing.specs.Params.{paramsOf, withinOf as paramsWithin}
 use Rattle.easing.specs.Apply.{applyOf, fitsRecordOf}
 use Rattle.loop_mode.specs.Passes.{withinOf as modeWithin}
@@ -20,7 +20,7 @@ use Rattle.keyframe.specs.Sampling.{valueAtOf}
 use Rattle.keyframe.specs.Stepping.{finalOf, advanceOf, updateOf as trackUpdate}
 
 unfoldable pub easings : Unit {0}
-unfolding cubicBezier foundOf newtonOf bisectOf turnOf sampleCubicOf sampleCubicDerivativeOf curveOf suppliedOf paramsOf paramsWithin applyOf fitsRecordOf add sub mul div neg sum lt le eq isNan round ofInt ofBits toUnsigned
+unfolding cubicBezier foundOf newtonOf turnOf sampleCubicOf suppliedOf paramsOf paramsWithin applyOf fitsRecordOf sub mul div le isNan ofInt ofBits toUnsigned
 easings = tt
 
 unfoldable pub tweens : Unit {0}

@@ -27,6 +27,7 @@ infix 8 _÷_
 abbrev pub _÷_ : ℕ → ℕ → Float
 m ÷ n = round binary32 false m n
 
+-- exact up to 16,777,216
 abbrev pub whole : ℕ → Float
 whole n = n ÷ 1
 
@@ -51,7 +52,7 @@ pub data Row : Type 0 where
   -- a tween that is reset, and steps one after the other
   runs : Tween → List Step → Row
 
--- "Tweens: just reset, Linear, delay 0, scale 1 unless said": a tween of a duration and a delay in seconds, its mode, start and end
+-- "Linear, delay 0, scale 1 unless said": the duration and the delay in seconds, the mode, start and end
 abbrev pub tween : ℕ → ℕ → Loop → ℕ → ℕ → Tween
 tween duration delay mode start end =
     record {
@@ -69,7 +70,7 @@ tween duration delay mode start end =
       «ping_pong_reverse» = false;
     }
 
--- of a tween that an update handed back, and the folds that it reported
+-- what is said holds of the tween that an update handed back, or of the folds that it reported
 abbrev pub Tells : Tween → ℕ → Said → Type 0
 Tells t k (folds n) = k ≡ n
 Tells t k (elapsed n) = t .elapsed ≡ whole n
@@ -93,11 +94,13 @@ abbrev pub handedBack : Updated → Tween
 handedBack (updated.Ran t k running) = t
 handedBack (updated.Refused t r) = t
 
+-- each step from where the one before it left the tween
 abbrev pub Chain : List Step → Tween → Type 0
 Chain [] t = Unit {0}
 Chain (step n says ∷ steps) t = Accepted says (updateOf t (whole n)) × Chain steps (handedBack (updateOf t (whole n)))
 Chain (refused n k ∷ steps) t = RefusedBy k (updateOf t (whole n)) × Chain steps (handedBack (updateOf t (whole n)))
 
+-- "just reset"
 abbrev pub FromReset : List Step → Changed → Type 0
 FromReset steps (changed.Done t) = Chain steps t
 FromReset steps (changed.Refused t r) = ⊥
