@@ -3,6 +3,7 @@ pub mod Examples
 pub mod Handed
 pub mod Kept
 pub mod KeptByUpdate
+mod Glides
 pub mod Reported
 mod Stepping
 mod Told

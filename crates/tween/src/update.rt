@@ -101,7 +101,7 @@ fn wait(t: Tween, x: f32) -> Begun
 }
 
 // A step x from 0 up while Running.
-fn run(t: Tween, x: f32) -> Begun
+pub fn run(t: Tween, x: f32) -> Begun
     ensures { λ r. ⌜ finishOf t r ≡ runOf t x (t .elapsed ⊕ x ⊗ t .«time_scale») ⌝ }
 {
     let e = t.elapsed + x * t.time_scale;
