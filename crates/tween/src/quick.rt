@@ -1,11 +1,11 @@
-// The common step, quickly: of a tween that runs and goes on running.
+// The common step, quickly: of a tween that runs and goes on running, with one fold at most.
 ghost use mathlib.Core.Path.{_≡_};
 ghost use mathlib.Core.Bool.{true};
 ghost use Prim.Native.Nat.{_≤_};
 ghost use Rattle.tween.specs.Limits.{withinOf};
 ghost use Rattle.tween.specs.Gliding.{Slides, Glides};
 use crate::fold::Folding;
-use crate::fold::fold_all;
+use crate::fold::fold_once;
 use crate::fold::is_due;
 use crate::record::Tween;
 use crate::record::TweenState;
@@ -37,17 +37,17 @@ fn slide(t: Tween, waited: f32, e: f32) -> Glided
         return Glided::To { waited, now: first };
     }
     let looping = t.looping;
-    let last = fold_all(looping, t.duration, first);
-    if last.completed {
+    let once = fold_once(looping, t.duration, first);
+    if once.completed {
         return Glided::Unsure;
     }
-    if is_due(t.duration, last) {
+    if is_due(t.duration, once) {
         return Glided::Unsure;
     }
-    if last.loop_count > 16777216 {
+    if once.loop_count > 16777216 {
         return Glided::Unsure;
     }
-    Glided::To { waited, now: last }
+    Glided::To { waited, now: once }
 }
 
 // An inner step, for runs of many.
