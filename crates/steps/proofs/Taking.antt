@@ -19,6 +19,7 @@ use Rattle.tween.specs.Limits.{settingsWithin, clockWithin, withinOf}
 use Rattle.tween.specs.Calls.{valueOf}
 use Rattle.tween.specs.Update.{updateOf}
 use Rattle.tween.specs.Gliding.{Glides}
+use Rattle.tween.proofs.Glides.{placed, goes-to}
 use Rattle.tween.proofs.KeptByUpdate.{update-within}
 use Rattle.tween.proofs.Valued.{value-answers}
 use Rattle.steps.specs.declared.take.Taken.{Taken}
@@ -70,34 +71,13 @@ step-fine t x = go (updateOf t x)
 pub took-within : (t u : Tween) (x v : Float) (k : ℕ) → stepOf t x ≡ Took u v k → withinOf u ≡ true
 took-within t u x v k e = subst Fine e (step-fine t x)
 
--- t with what a gliding step changes set in place
-abbrev pub placed : Tween → Float → Folding → Tween
-placed t w p =
-    record {
-      start = t .start;
-      end = t .end;
-      duration = t .duration;
-      easing = t .easing;
-      delay = t .delay;
-      «time_scale» = t .«time_scale»;
-      looping = t .looping;
-      elapsed = p .elapsed;
-      «delay_elapsed» = w;
-      state = t .state;
-      «loop_count» = p .«loop_count»;
-      «ping_pong_reverse» = p .«ping_pong_reverse»;
-    }
-
 module _ (t : Tween) (x w : Float) (p : Folding) (h : Glides t x (To w p)) where
-  goes-to : updateOf t x ≡ Ran (placed t w p) (p .folds) true
-  goes-to = h .1 .0 ∙ (rw (h .0, h .1 .1) refl)
-
   pub glide-within : withinOf (placed t w p) ≡ true
-  glide-within = is-true (withinOf (placed t w p)) (update-within t (placed t w p) x (p .folds) true goes-to (le→leb (p .«loop_count») 16777216 (h .1 .2)))
+  glide-within = is-true (withinOf (placed t w p)) (update-within t (placed t w p) x (p .folds) true (goes-to t x w p h) (le→leb (p .«loop_count») 16777216 (h .1 .2)))
 
   pub glide-took : (v : Float) → valueOf (placed t w p) ≡ eased.Value v → stepOf t x ≡ Took (placed t w p) v (p .folds)
   unfolding stepOf
-  glide-took v e = rw (goes-to, e) refl
+  glide-took v e = rw (goes-to t x w p h, e) refl
 
 -- a tween within its limits has a value
 pub always-value : (t : Tween) → withinOf t ≡ true → (r : Refusal) → valueOf t ≡ eased.Refused r → ⊥

@@ -7,6 +7,7 @@ use Rattle.math.specs.Rounded.{zeroF}
 use Rattle.loop_mode.specs.declared.Loop.{Loop}
 use Rattle.tween.specs.declared.record.Tween.{Tween}
 use Rattle.tween.specs.declared.record.TweenState.the-variants.{Running}
+use Rattle.tween.specs.declared.answers.Updated.the-variants.{Ran}
 use Rattle.tween.specs.declared.quick.Glided.{Glided}
 use Rattle.tween.specs.declared.quick.Glided.the-variants.{To, Unsure}
 use Rattle.tween.specs.declared.fold.Folding.{Folding}
@@ -31,3 +32,24 @@ one-fold t w e q z b f n =
     let p = beginAt t e in
     let m : due (t .duration) (foldOnce (t .looping) (t .duration) p) ≡ false = ap (due (t .duration)) (sym f) ∙ n in
     rw (z, b, folds-once (t .looping) (t .duration) p m 4094, ← f, n) refl
+
+-- t with what a gliding step changes set in place
+abbrev pub placed : Tween → Float → Folding → Tween
+placed t w p =
+    record {
+      start = t .start;
+      end = t .end;
+      duration = t .duration;
+      easing = t .easing;
+      delay = t .delay;
+      «time_scale» = t .«time_scale»;
+      looping = t .looping;
+      elapsed = p .elapsed;
+      «delay_elapsed» = w;
+      state = t .state;
+      «loop_count» = p .«loop_count»;
+      «ping_pong_reverse» = p .«ping_pong_reverse»;
+    }
+
+pub goes-to : (t : Tween) (x w : Float) (p : Folding) → Glides t x (To w p) → updateOf t x ≡ Ran (placed t w p) (p .folds) true
+goes-to t x w p h = h .1 .0 ∙ (rw (h .0, h .1 .1) refl)

@@ -1,9 +1,9 @@
 pub mod Bounds
 pub mod Examples
+pub mod Glides
 pub mod Handed
 pub mod Kept
 pub mod KeptByUpdate
-mod Glides
 pub mod Reported
 mod Stepping
 mod Told

@@ -10,6 +10,8 @@ use crate::fold::Folding;
 use crate::fold::fold_all;
 use crate::fold::is_due;
 use crate::limits::within;
+use crate::quick::Glided;
+use crate::quick::glide;
 use crate::record::Tween;
 use crate::record::TweenSnapshot;
 use crate::record::TweenState;
@@ -184,6 +186,20 @@ impl Tween {
                 refusal: Refusal::RecordBreaksLimit,
             };
         }
-        step_on(self, step)
+        match glide(self, step) {
+            Glided::To { waited, now } => {
+                let mut t = self;
+                t.elapsed = now.elapsed;
+                t.delay_elapsed = waited;
+                t.loop_count = now.loop_count;
+                t.ping_pong_reverse = now.ping_pong_reverse;
+                Updated::Ran {
+                    tween: t,
+                    folds: now.folds,
+                    running: true,
+                }
+            }
+            Glided::Unsure => step_on(self, step),
+        }
     }
 }
