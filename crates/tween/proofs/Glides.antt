@@ -8,8 +8,8 @@ use Rattle.loop_mode.specs.declared.Loop.{Loop}
 use Rattle.tween.specs.declared.record.Tween.{Tween}
 use Rattle.tween.specs.declared.record.TweenState.the-variants.{Running}
 use Rattle.tween.specs.declared.answers.Updated.the-variants.{Ran}
-use Rattle.tween.specs.declared.quick.Glided.{Glided}
-use Rattle.tween.specs.declared.quick.Glided.the-variants.{To, Unsure}
+use Rattle.tween.specs.declared.update.Glided.{Glided}
+use Rattle.tween.specs.declared.update.Glided.the-variants.{To, Unsure}
 use Rattle.tween.specs.declared.fold.Folding.{Folding}
 use Rattle.tween.specs.Folds.{foldOnce, due, foldsOf}
 use Rattle.tween.specs.Update.{beginAt, ran, folded, advanced, updateOf}

@@ -8,8 +8,8 @@ use Rattle.tween.specs.declared.record.TweenState.the-variants.{Running}
 use Rattle.tween.specs.declared.answers.Updated.{Updated}
 use Rattle.tween.specs.declared.answers.Updated.the-variants.{Ran}
 use Rattle.tween.specs.declared.fold.Folding.{Folding}
-use Rattle.tween.specs.declared.quick.Glided.{Glided}
-use Rattle.tween.specs.declared.quick.Glided.the-variants.{To, Unsure}
+use Rattle.tween.specs.declared.update.Glided.{Glided}
+use Rattle.tween.specs.declared.update.Glided.the-variants.{To, Unsure}
 use Rattle.tween.specs.Update.{ran, advanced, updateOf}
 
 -- a is the answer that moves t to p, and t runs on

@@ -1,8 +1,8 @@
 -- `begin` meets its contract: each arm is told its state. Assumes nothing.
 use borrow.Author.Needs.{needs}
 use Rattle.tween.specs.Update.{byState}
-use Rattle.tween.proofs.update.begin.Statement.{statement}
-use Rattle.tween.proofs.update.begin.Tie as tie
+use Rattle.tween.proofs.step.begin.Statement.{statement}
+use Rattle.tween.proofs.step.begin.Tie as tie
 
 pub begin-spec : {M : Type 1} → statement M
 unfolding byState

@@ -1,7 +1,7 @@
 -- `run_to` meets its contract, by what its callees ensure. Assumes nothing.
 use borrow.Author.Needs.{needs}
-use Rattle.tween.proofs.update.run_to.Statement.{statement}
-use Rattle.tween.proofs.update.run_to.Tie as tie
+use Rattle.tween.proofs.step.run_to.Statement.{statement}
+use Rattle.tween.proofs.step.run_to.Tie as tie
 
 pub run-to-spec : {M : Type 1} → statement M
 run-to-spec =

@@ -1,7 +1,7 @@
 -- `finish` meets its contract: each arm is told how the step began. Assumes nothing.
 use borrow.Author.Needs.{needs}
-use Rattle.tween.proofs.update.finish.Statement.{statement}
-use Rattle.tween.proofs.update.finish.Tie as tie
+use Rattle.tween.proofs.step.finish.Statement.{statement}
+use Rattle.tween.proofs.step.finish.Tie as tie
 
 pub finish-spec : {M : Type 1} → statement M
 finish-spec =

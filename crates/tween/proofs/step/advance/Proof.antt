@@ -2,8 +2,8 @@
 use borrow.Author.Needs.{needs}
 use lib.Ieee.{ofBits}
 use Rattle.tween.specs.Update.{folded, advanced}
-use Rattle.tween.proofs.update.advance.Statement.{statement}
-use Rattle.tween.proofs.update.advance.Tie as tie
+use Rattle.tween.proofs.step.advance.Statement.{statement}
+use Rattle.tween.proofs.step.advance.Tie as tie
 
 pub advance-spec : {M : Type 1} → statement M
 unfolding advanced folded ofBits

@@ -4,8 +4,8 @@ use lib.Ieee.{ofBits}
 use Rattle.tween.specs.Update.{byState, updateOf}
 use Rattle.tween.proofs.Told.{within-count}
 use Rattle.tween.proofs.Glides.{glides}
-use Rattle.tween.proofs.quick.glide.Statement.{statement}
-use Rattle.tween.proofs.quick.glide.Tie as tie
+use Rattle.tween.proofs.update.glide.Statement.{statement}
+use Rattle.tween.proofs.update.glide.Tie as tie
 
 pub glide-spec : {M : Type 1} → statement M
 unfolding updateOf byState ofBits

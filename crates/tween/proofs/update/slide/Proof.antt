@@ -6,8 +6,8 @@ use Rattle.math.proofs.Choice.{fails, passes}
 use Rattle.tween.specs.Folds.{foldsOf}
 use Rattle.tween.specs.Update.{folded, advanced}
 use Rattle.tween.proofs.Glides.{one-fold}
-use Rattle.tween.proofs.quick.slide.Statement.{statement}
-use Rattle.tween.proofs.quick.slide.Tie as tie
+use Rattle.tween.proofs.update.slide.Statement.{statement}
+use Rattle.tween.proofs.update.slide.Tie as tie
 
 pub slide-spec : {M : Type 1} → statement M
 unfolding advanced folded foldsOf ofBits

@@ -3,8 +3,8 @@ use borrow.Author.Needs.{needs}
 use lib.Ieee.{ofBits}
 use Rattle.tween.proofs.Told.{within-count}
 use Rattle.tween.specs.Update.{updateOf}
-use Rattle.tween.proofs.update.step_on.Statement.{statement}
-use Rattle.tween.proofs.update.step_on.Tie as tie
+use Rattle.tween.proofs.step.step_on.Statement.{statement}
+use Rattle.tween.proofs.step.step_on.Tie as tie
 
 pub step-on-spec : {M : Type 1} → statement M
 unfolding updateOf ofBits

@@ -5,8 +5,8 @@ use lib.Ieee.{Float, ofBits, lt, eq}
 use Rattle.math.specs.Rounded.{zeroF, _⊕_, _⊖_, _⊗_}
 use Rattle.tween.specs.declared.record.Tween.{Tween}
 use Rattle.tween.specs.Update.{advanced, waitOf}
-use Rattle.tween.proofs.update.wait.Statement.{statement}
-use Rattle.tween.proofs.update.wait.Tie as tie
+use Rattle.tween.proofs.step.wait.Statement.{statement}
+use Rattle.tween.proofs.step.wait.Tie as tie
 
 -- the delay is over, and nothing is lost
 over : (t : Tween) (x w : Float) → lt zeroF x && eq w (t .«delay_elapsed») ≡ false → lt w (t .delay) ≡ false

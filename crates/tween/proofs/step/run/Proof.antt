@@ -1,8 +1,8 @@
 -- `run` meets its contract. Assumes nothing.
 use lib.Ieee.{ofBits}
 use Rattle.tween.specs.Update.{runOf}
-use Rattle.tween.proofs.update.run.Statement.{statement}
-use Rattle.tween.proofs.update.run.Tie as tie
+use Rattle.tween.proofs.step.run.Statement.{statement}
+use Rattle.tween.proofs.step.run.Tie as tie
 
 pub run-spec : {M : Type 1} → statement M
 unfolding runOf ofBits
