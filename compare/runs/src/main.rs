@@ -1,1 +1,63 @@
-fn main(){ let e = oracle::Easing::EaseInQuad; println!("{}", e.apply(0.5)); }
+//! The proved library held against animato's Rust. See compare/README.md.
+mod difference;
+mod edges;
+mod ffi;
+mod input;
+mod make;
+mod meaning;
+mod random;
+mod rules;
+mod runner;
+mod shrink;
+mod subjects;
+mod tally;
+mod words;
+
+use std::env;
+use std::process::ExitCode;
+use std::time::{SystemTime, UNIX_EPOCH};
+
+const USAGE: &str = "compare short
+compare random [--seed S] [--count CASES]
+compare exhaustive [--kind KIND]";
+
+/// The cases of the short run, and of the random run where no count is given.
+const SHORT: u64 = 100_000;
+const RANDOM: u64 = 2_000_000;
+
+fn main() -> ExitCode {
+    let arguments: Vec<String> = env::args().skip(1).collect();
+    let agreed = match arguments.first().map(String::as_str) {
+        Some("short") => Some(random_run(1, SHORT)),
+        Some("random") => {
+            let seed = option(&arguments, "--seed").unwrap_or_else(seed_of_clock);
+            Some(random_run(seed, option(&arguments, "--count").unwrap_or(RANDOM)))
+        }
+        _ => None,
+    };
+    match agreed {
+        Some(true) => ExitCode::SUCCESS,
+        Some(false) => ExitCode::FAILURE,
+        None => {
+            eprintln!("{USAGE}");
+            ExitCode::from(2)
+        }
+    }
+}
+
+fn random_run(seed: u64, cases: u64) -> bool {
+    println!("seed {seed}, {cases} random cases behind the edges");
+    let parts = edges::PARTS + cases.div_ceil(random::CASES);
+    runner::run(parts, |part, runner| {
+        if part < edges::PARTS { edges::part(part, runner) } else { random::part(seed, part - edges::PARTS, runner) }
+    })
+}
+
+fn option(arguments: &[String], name: &str) -> Option<u64> {
+    let place = arguments.iter().position(|argument| argument == name)?;
+    arguments.get(place + 1)?.parse().ok()
+}
+
+fn seed_of_clock() -> u64 {
+    SystemTime::now().duration_since(UNIX_EPOCH).map_or(0, |since| since.as_secs())
+}

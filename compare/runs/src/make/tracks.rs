@@ -71,9 +71,10 @@ impl Maker {
     fn track_elapsed(&mut self, t: &LaxTrack) -> f32 {
         let last = last_time(t);
         let total = last * passes(&t.looping).unwrap_or(3) as f32;
+        let passed = last * self.below(9) as f32;
         let elapsed = match self.below(8) {
             0 => 0.0,
-            1 => self.near(last * self.below(9) as f32),
+            1 => self.near(passed),
             2 => self.near(total),
             3 => self.part() * total,
             4 => self.up_to(LIMIT),
