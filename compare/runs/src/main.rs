@@ -1,10 +1,12 @@
 //! The proved library held against animato's Rust. See compare/README.md.
 mod difference;
 mod edges;
+mod exhaustive;
 mod ffi;
 mod input;
 mod make;
 mod meaning;
+mod power;
 mod random;
 mod rules;
 mod runner;
@@ -19,7 +21,8 @@ use std::time::{SystemTime, UNIX_EPOCH};
 
 const USAGE: &str = "compare short
 compare random [--seed S] [--count CASES]
-compare exhaustive [--kind KIND]";
+compare exhaustive [--kind KIND]
+compare power";
 
 /// The cases of the short run, and of the random run where no count is given.
 const SHORT: u64 = 100_000;
@@ -33,6 +36,8 @@ fn main() -> ExitCode {
             let seed = option(&arguments, "--seed").unwrap_or_else(seed_of_clock);
             Some(random_run(seed, option(&arguments, "--count").unwrap_or(RANDOM)))
         }
+        Some("exhaustive") => Some(exhaustive::run(text_option(&arguments, "--kind"))),
+        Some("power") => Some(power::run()),
         _ => None,
     };
     match agreed {
@@ -53,9 +58,13 @@ fn random_run(seed: u64, cases: u64) -> bool {
     })
 }
 
-fn option(arguments: &[String], name: &str) -> Option<u64> {
+fn text_option<'a>(arguments: &'a [String], name: &str) -> Option<&'a str> {
     let place = arguments.iter().position(|argument| argument == name)?;
-    arguments.get(place + 1)?.parse().ok()
+    arguments.get(place + 1).map(String::as_str)
+}
+
+fn option(arguments: &[String], name: &str) -> Option<u64> {
+    text_option(arguments, name)?.parse().ok()
 }
 
 fn seed_of_clock() -> u64 {

@@ -114,15 +114,15 @@ pub fn track(w: &LaxTrack) -> KeyframeTrack<f32> {
     KeyframeTrack::of_fields(frames, w.elapsed, looping(&w.looping), w.loop_count, w.complete != 0)
 }
 
-/// The places behind the frames are 0.
-pub fn track_words(t: &KeyframeTrack<f32>) -> LaxTrack {
+/// The places behind the frames are those that came.
+pub fn track_words(t: &KeyframeTrack<f32>, came: &LaxTrack) -> LaxTrack {
     let mut words = LaxTrack {
+        frames: came.frames,
         count: t.frames().len() as u32,
         elapsed: t.elapsed(),
         looping: loop_words(&t.looping),
         loop_count: t.passes_made(),
         complete: t.marked_complete().into(),
-        ..LaxTrack::default()
     };
     for (place, frame) in words.frames.iter_mut().zip(t.frames()) {
         *place = LaxKeyframe { time: frame.time, value: frame.value, easing: easing_words(&frame.easing) };

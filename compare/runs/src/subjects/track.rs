@@ -104,10 +104,10 @@ impl TrackCall {
 
     fn change(&self, t: &LaxTrack) -> Checked {
         let number = self.refused(t);
-        let accepted = || LaxTrackChanged { number, track: meaning::track_words(&self.changed_rust(t)) };
+        let accepted = || LaxTrackChanged { number, track: meaning::track_words(&self.changed_rust(t), t) };
         let refused = LaxTrackChanged { number, track: *t };
         let ours = answered(self.name(), number, self.changed(t), refused, accepted)?;
-        self.kept(number, &ours.track)?;
+        self.kept(number, t, &ours.track)?;
         Ok((number, Some(Box::new(ours.track))))
     }
 
@@ -116,18 +116,22 @@ impl TrackCall {
         let accepted = || {
             let mut track = meaning::track(t);
             let running = track.update(step).into();
-            LaxTrackUpdated { number, running, track: meaning::track_words(&track) }
+            LaxTrackUpdated { number, running, track: meaning::track_words(&track, t) }
         };
         let refused = LaxTrackUpdated { number, running: 0, track: *t };
         let ours = answered(self.name(), number, lax_track_update(*t, step), refused, accepted)?;
-        self.kept(number, &ours.track)?;
+        self.kept(number, t, &ours.track)?;
         Ok((number, Some(Box::new(ours.track))))
     }
 
-    /// An accepted call hands back a track within its limits: so a pushed -0 is stored as +0.
-    fn kept(&self, number: u32, t: &LaxTrack) -> Result<(), Difference> {
+    /// An accepted call hands back a track within its limits, so a pushed -0 is stored as +0; the places
+    /// behind its frames are those that came, to the bit.
+    fn kept(&self, number: u32, came: &LaxTrack, t: &LaxTrack) -> Result<(), Difference> {
         let kept = number != 0 || !rules::track_breaks(t);
-        must(&format!("{}: within limits afterwards", self.name()), kept)
+        must(&format!("{}: within limits afterwards", self.name()), kept)?;
+        let behind = 8 * rules::frames(t).len()..8 * PLACES;
+        let kept = t.words()[behind.clone()] == came.words()[behind];
+        must(&format!("{}: places behind the frames kept", self.name()), kept)
     }
 
     fn read(&self, t: &LaxTrack, ours: LaxValue, read: fn(&KeyframeTrack<f32>) -> f32) -> Checked {
@@ -182,6 +186,6 @@ pub const NEW_TRACK: &str = "track new";
 
 pub fn check_new_track() -> Result<LaxTrack, Difference> {
     let ours = lax_track_new();
-    same_bits(NEW_TRACK, &ours, &meaning::track_words(&KeyframeTrack::new()))?;
+    same_bits(NEW_TRACK, &ours, &meaning::track_words(&KeyframeTrack::new(), &LaxTrack::default()))?;
     Ok(ours)
 }
