@@ -26,7 +26,10 @@ fn main() {
         let path = sources.join(file);
         println!("cargo:rerun-if-changed={}", path.display());
         let Ok(path) = path.canonicalize() else {
-            eprintln!("there is no {}; set ANIMATO_SRC to a checkout of animato at fd9d7198f7", path.display());
+            eprintln!(
+                "there is no {}; set ANIMATO_SRC to a checkout of animato at fd9d7198f7",
+                path.display()
+            );
             process::exit(1);
         };
         writeln!(modules, "#[path = {path:?}]\npub mod {name};").unwrap();

@@ -50,7 +50,14 @@ pub enum PlaybackState {
 pub struct AnimationIntrospection;
 
 impl AnimationIntrospection {
-    pub fn new(_: AnimationKind, _: f32, _: f32, _: Option<f32>, _: PlaybackState, _: Option<Easing>) -> Self {
+    pub fn new(
+        _: AnimationKind,
+        _: f32,
+        _: f32,
+        _: Option<f32>,
+        _: PlaybackState,
+        _: Option<Easing>,
+    ) -> Self {
         Self
     }
 }

@@ -87,6 +87,10 @@ pub fn answered<T: Words>(
     refused: T,
     accepted: impl FnOnce() -> T,
 ) -> Result<T, Difference> {
-    if number == 0 { same(call, &ours, &accepted())? } else { same_bits(call, &ours, &refused)? }
+    if number == 0 {
+        same(call, &ours, &accepted())?
+    } else {
+        same_bits(call, &ours, &refused)?
+    }
     Ok(ours)
 }

@@ -10,8 +10,30 @@ use crate::words::*;
 use oracle::Easing;
 
 const COUNTS: [u32; 24] = [
-    0, 1, 2, 3, 4, 5, 6, 12, 13, 31, 37, 38, 63, 64, 65, 4_096, 65_535, 65_536, 65_537, 16_777_215,
-    16_777_216, 16_777_217, u32::MAX - 1, u32::MAX,
+    0,
+    1,
+    2,
+    3,
+    4,
+    5,
+    6,
+    12,
+    13,
+    31,
+    37,
+    38,
+    63,
+    64,
+    65,
+    4_096,
+    65_535,
+    65_536,
+    65_537,
+    16_777_215,
+    16_777_216,
+    16_777_217,
+    u32::MAX - 1,
+    u32::MAX,
 ];
 
 const TWEENS: u64 = 5 * 4;
@@ -162,9 +184,12 @@ fn tracks(plain: &LaxTrack, runner: &mut Runner) -> Tried<()> {
         }
     }
     let count = plain.count as usize;
-    let looked_at = |place: usize| [0, 1, count.wrapping_sub(1), count].contains(&(place / 8)) || place >= 8 * PLACES;
+    let looked_at =
+        |place: usize| [0, 1, count.wrapping_sub(1), count].contains(&(place / 8)) || place >= 8 * PLACES;
     each_word(plain, &looked_at, &mut |changed| {
         let changed = Box::new(changed);
-        calls.iter().try_for_each(|call| runner.check(made, Input::Track(changed.clone(), call.clone())).map(drop))
+        calls
+            .iter()
+            .try_for_each(|call| runner.check(made, Input::Track(changed.clone(), call.clone())).map(drop))
     })
 }

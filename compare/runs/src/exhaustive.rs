@@ -35,7 +35,11 @@ pub fn run(only: Option<&str>) -> bool {
             show(easing, first);
         }
     }
-    println!("exhaustive: {} kinds, {calls} calls, {}", chosen.len(), if agreed { "0 differences" } else { "DIFFERENCES" });
+    println!(
+        "exhaustive: {} kinds, {calls} calls, {}",
+        chosen.len(),
+        if agreed { "0 differences" } else { "DIFFERENCES" }
+    );
     agreed && !chosen.is_empty()
 }
 

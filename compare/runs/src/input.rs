@@ -63,7 +63,9 @@ impl Input {
             Input::Tween(_, TweenCall::Run { steps, values, folds }) => {
                 vec![("steps", steps.len()), ("values", *values), ("folds", *folds)]
             }
-            Input::Track(_, TrackCall::ValuesAt { times, out }) => vec![("times", times.len()), ("out", *out)],
+            Input::Track(_, TrackCall::ValuesAt { times, out }) => {
+                vec![("times", times.len()), ("out", *out)]
+            }
             _ => vec![],
         }
     }
@@ -80,13 +82,19 @@ impl Input {
             Input::Tween(t, TweenCall::Run { steps, values, folds }) => {
                 for place in 0..steps.len() {
                     let (values, folds) = (values.saturating_sub(1), folds.saturating_sub(1));
-                    all.push(Input::Tween(*t, TweenCall::Run { steps: without(steps, place), values, folds }));
+                    all.push(Input::Tween(
+                        *t,
+                        TweenCall::Run { steps: without(steps, place), values, folds },
+                    ));
                 }
             }
             Input::Track(t, TrackCall::ValuesAt { times, out }) => {
                 for place in 0..times.len() {
                     let times = without(times, place);
-                    all.push(Input::Track(t.clone(), TrackCall::ValuesAt { times, out: out.saturating_sub(1) }));
+                    all.push(Input::Track(
+                        t.clone(),
+                        TrackCall::ValuesAt { times, out: out.saturating_sub(1) },
+                    ));
                 }
             }
             _ => {}

@@ -25,8 +25,8 @@ compare exhaustive [--kind KIND]
 compare power";
 
 /// The cases of the short run, and of the random run where no count is given.
-const SHORT: u64 = 100_000;
-const RANDOM: u64 = 2_000_000;
+const SHORT: u64 = 400_000;
+const RANDOM: u64 = 4_000_000;
 
 fn main() -> ExitCode {
     let arguments: Vec<String> = env::args().skip(1).collect();
@@ -54,7 +54,11 @@ fn random_run(seed: u64, cases: u64) -> bool {
     println!("seed {seed}, {cases} random cases behind the edges");
     let parts = edges::PARTS + cases.div_ceil(random::CASES);
     runner::run(parts, |part, runner| {
-        if part < edges::PARTS { edges::part(part, runner) } else { random::part(seed, part - edges::PARTS, runner) }
+        if part < edges::PARTS {
+            edges::part(part, runner)
+        } else {
+            random::part(seed, part - edges::PARTS, runner)
+        }
     })
 }
 

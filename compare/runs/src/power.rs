@@ -49,7 +49,9 @@ fn read(text: &str, work: &Path) -> Vec<Change> {
             ("#", _) => changes.push(Change { what: rest.into(), file: PathBuf::new(), edits: Vec::new() }),
             ("file:", Some(change)) => change.file = work.join(rest.trim()),
             ("old:", Some(change)) => change.edits.push((rest.trim().into(), String::new())),
-            ("new:", Some(change)) => change.edits.last_mut().expect("an old before its new").1 = rest.trim().into(),
+            ("new:", Some(change)) => {
+                change.edits.last_mut().expect("an old before its new").1 = rest.trim().into()
+            }
             _ => {}
         }
     }
@@ -126,7 +128,10 @@ fn short_run(work: &Path) -> io::Result<String> {
         .output()?;
     if !built.status.success() {
         let error = String::from_utf8_lossy(&built.stderr);
-        return Ok(format!("NOT BUILT: {}", error.lines().find(|line| line.starts_with("error")).unwrap_or("")));
+        return Ok(format!(
+            "NOT BUILT: {}",
+            error.lines().find(|line| line.starts_with("error")).unwrap_or("")
+        ));
     }
     let out = work.join("out.txt");
     let run = Command::new(target.join("release/compare"))

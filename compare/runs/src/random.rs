@@ -22,8 +22,11 @@ pub fn part(seed: u64, part: u64, runner: &mut Runner) -> Tried<()> {
 
 fn easings(maker: &mut Maker, runner: &mut Runner) -> Tried<()> {
     let odd = maker.once_in(4);
-    let (made, easing) =
-        if odd { ("easing, odd words", maker.odd_easing()) } else { ("easing, within limits", maker.easing()) };
+    let (made, easing) = if odd {
+        ("easing, odd words", maker.odd_easing())
+    } else {
+        ("easing, within limits", maker.easing())
+    };
     for _ in 0..12 {
         runner.check(made, Input::Easing(EasingCall::Apply(easing, maker.progress())))?;
     }

@@ -45,7 +45,8 @@ fn candidates(word: u32, kind: Kind) -> Vec<u32> {
 }
 
 fn simpler_floats(x: f32) -> Vec<u32> {
-    let mut all = [0.0, 1.0, 2.0, 0.5, x.trunc(), x.abs(), (x / 2.0).trunc(), x - 1.0].map(f32::to_bits).to_vec();
+    let mut all =
+        [0.0, 1.0, 2.0, 0.5, x.trunc(), x.abs(), (x / 2.0).trunc(), x - 1.0].map(f32::to_bits).to_vec();
     all.extend([22, 20, 18, 16, 12, 8, 4, 2, 1].map(|low| x.to_bits() >> low << low));
     all
 }

@@ -2,9 +2,8 @@ use super::Maker;
 use crate::words::{LaxEasing, LaxLoop};
 
 /// The 26 kinds that are supplied.
-pub const SUPPLIED: [u32; 26] = [
-    0, 1, 2, 3, 4, 5, 6, 7, 8, 9, 10, 11, 12, 19, 20, 21, 22, 23, 24, 28, 29, 30, 31, 32, 34, 36,
-];
+pub const SUPPLIED: [u32; 26] =
+    [0, 1, 2, 3, 4, 5, 6, 7, 8, 9, 10, 11, 12, 19, 20, 21, 22, 23, 24, 28, 29, 30, 31, 32, 34, 36];
 
 impl Maker {
     /// Supplied and within its limits; every third has something in the words that are not looked at.

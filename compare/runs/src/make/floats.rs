@@ -34,7 +34,8 @@ const MARKS: [f32; 27] = [
 
 /// The marks, the floats next to each, all of them negative too, the infinities, and NaN in four ways.
 pub static EDGES: LazyLock<Vec<f32>> = LazyLock::new(|| {
-    let mut edges: Vec<f32> = [0x7fc0_0000, 0xffc0_0000, 0x7f80_0001, 0x7fff_ffff].map(f32::from_bits).to_vec();
+    let mut edges: Vec<f32> =
+        [0x7fc0_0000, 0xffc0_0000, 0x7f80_0001, 0x7fff_ffff].map(f32::from_bits).to_vec();
     for mark in MARKS {
         for near in [mark.to_bits().saturating_sub(1), mark.to_bits(), mark.to_bits() + 1] {
             edges.extend([f32::from_bits(near), -f32::from_bits(near)]);

@@ -114,9 +114,5 @@ pub fn update_refused(t: &LaxTween, step: f32) -> u32 {
 
 /// Of a run of steps as a whole; the steps are then refused one by one.
 pub fn run_refused(t: &LaxTween, steps: usize, values: usize, folds: usize) -> u32 {
-    first(&[
-        (100, &|| tween_unknown(t)),
-        (4, &|| tween_breaks(t)),
-        (12, &|| values < steps || folds < steps),
-    ])
+    first(&[(100, &|| tween_unknown(t)), (4, &|| tween_breaks(t)), (12, &|| values < steps || folds < steps)])
 }

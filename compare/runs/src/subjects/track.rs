@@ -76,7 +76,9 @@ impl TrackCall {
             ValuesAt { times, out } => rules::samples_refused(t, times.len(), *out),
             Update(step) => rules::track_update_refused(t, *step),
             SeekTo(progress) => rules::seek_to_refused(t, *progress),
-            ActiveTime | Duration | PlaybackDuration | Progress | IsComplete | Reset => rules::track_refused(t),
+            ActiveTime | Duration | PlaybackDuration | Progress | IsComplete | Reset => {
+                rules::track_refused(t)
+            }
         }
     }
 
@@ -94,7 +96,9 @@ impl TrackCall {
         let mut track = meaning::track(t);
         match self {
             Push(time, value) => return track.push(*time, *value),
-            PushEased(time, value, easing) => return track.push_eased(*time, *value, meaning::easing(easing)),
+            PushEased(time, value, easing) => {
+                return track.push_eased(*time, *value, meaning::easing(easing));
+            }
             Looping(mode) => return track.looping(meaning::looping(mode)),
             SeekTo(progress) => track.seek_to(*progress),
             _ => track.reset(),
@@ -137,7 +141,10 @@ impl TrackCall {
     fn read(&self, t: &LaxTrack, ours: LaxValue, read: fn(&KeyframeTrack<f32>) -> f32) -> Checked {
         let number = self.refused(t);
         let refused = LaxValue { number, value: 0.0 };
-        answered(self.name(), number, ours, refused, || LaxValue { number, value: read(&meaning::track(t)) })?;
+        answered(self.name(), number, ours, refused, || LaxValue {
+            number,
+            value: read(&meaning::track(t)),
+        })?;
         Ok((number, None))
     }
 

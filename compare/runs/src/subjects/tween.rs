@@ -70,7 +70,10 @@ impl TweenCall {
     fn value(&self, t: &LaxTween, ours: LaxValue, read: fn(&Tween<f32>) -> f32) -> Checked {
         let number = rules::tween_refused(t);
         let refused = LaxValue { number, value: 0.0 };
-        answered(self.name(), number, ours, refused, || LaxValue { number, value: read(&meaning::tween(t)) })?;
+        answered(self.name(), number, ours, refused, || LaxValue {
+            number,
+            value: read(&meaning::tween(t)),
+        })?;
         Ok((number, *t))
     }
 
@@ -161,7 +164,8 @@ fn updated(t: &LaxTween, step: f32) -> LaxUpdated {
 
 /// A run of steps by the rules, and by the Rust's update and value.
 fn ran(t: &LaxTween, steps: &[f32], values: &mut [f32], folds: &mut [u32]) -> LaxRun {
-    let mut run = LaxRun { done: 0, number: rules::run_refused(t, steps.len(), values.len(), folds.len()), tween: *t };
+    let mut run =
+        LaxRun { done: 0, number: rules::run_refused(t, steps.len(), values.len(), folds.len()), tween: *t };
     if run.number != 0 {
         return run;
     }
