@@ -1,5 +1,5 @@
 //! Finds the archive: in the folder LAXOMBIIT_LIB, or where `make lib` puts it in the repository. Its
-//! hash tells a long run whether the archive is still the one that it began with.
+//! hash lets a run say what it called.
 use std::env;
 use std::fs;
 use std::path::PathBuf;
@@ -18,12 +18,12 @@ fn main() {
         eprintln!("there is no {}; `make lib` builds it", archive.display());
         process::exit(1);
     };
-    println!("cargo:rustc-env=LAXOMBIIT_HASH={:016x}", fnv(&bytes));
+    println!("cargo:rustc-env=LAXOMBIIT_HASH={:016x}", bytes.into_iter().fold(0xcbf2_9ce4_8422_2325, fnv));
     println!("cargo:rustc-link-search=native={}", folder.display());
     println!("cargo:rustc-link-lib=static=laxombiit");
     println!("cargo:rustc-link-lib=m");
 }
 
-fn fnv(bytes: &[u8]) -> u64 {
-    bytes.iter().fold(0xcbf29ce484222325, |hash, byte| (hash ^ u64::from(*byte)).wrapping_mul(0x100000001b3))
+fn fnv(hash: u64, byte: u8) -> u64 {
+    (hash ^ u64::from(byte)).wrapping_mul(0x0100_0000_01b3)
 }

@@ -5,6 +5,9 @@
 extern crate alloc;
 extern crate self as animato_core;
 
+/// Of the sources that were read.
+pub const HASH: &str = env!("ANIMATO_HASH");
+
 pub mod traits;
 
 include!(concat!(env!("OUT_DIR"), "/modules.rs"));

@@ -1,5 +1,6 @@
 //! Every f32 from 0 to 1, for each supplied kind at the parameters of `all_named`. A kind that is done is
-//! noted in a file with the archive's hash, and is left out the next time.
+//! noted in a file, with the hashes of the archive and of the sources, and is left out the next time.
+use crate::compared;
 use crate::ffi::lax_easing_apply;
 use crate::meaning;
 use crate::rules::is_one_of_twelve;
@@ -17,30 +18,30 @@ const PIECE: u32 = 1 << 20;
 
 /// Whether all kinds, or the one that is named, agree.
 pub fn run(only: Option<&str>) -> bool {
+    println!("{}", compared());
     let named = Easing::all_named().iter().filter(|easing| !is_one_of_twelve(&meaning::easing_words(easing)));
     let chosen: Vec<&Easing> = named.filter(|easing| only.is_none_or(|only| only == name(easing))).collect();
-    let (mut agreed, mut calls) = (true, 0);
-    for easing in &chosen {
-        let line = format!("{} {} {} calls, 0 differences", env!("LAXOMBIIT_HASH"), name(easing), ONE + 1);
-        let done = fs::read_to_string(DONE).unwrap_or_default().lines().any(|done| done == line);
-        let first = if done { u32::MAX } else { first_difference(easing) };
-        calls += u64::from(ONE + 1);
-        if done {
-            println!("{}: done earlier", name(easing));
-        } else if first == u32::MAX {
-            println!("{}: {} calls, 0 differences", name(easing), ONE + 1);
-            note(&line);
-        } else {
-            agreed = false;
-            show(easing, first);
-        }
+    let agreeing = chosen.iter().filter(|easing| agrees(easing)).count();
+    let (kinds, calls) = (chosen.len(), chosen.len() as u64 * u64::from(ONE + 1));
+    println!("exhaustive: {kinds} kinds, {calls} calls, {} kinds with differences", kinds - agreeing);
+    kinds > 0 && agreeing == kinds
+}
+
+fn agrees(easing: &Easing) -> bool {
+    let found = format!("{}: {} calls, 0 differences", name(easing), ONE + 1);
+    let line = format!("{}; {found}", compared());
+    if fs::read_to_string(DONE).unwrap_or_default().lines().any(|done| done == line) {
+        println!("{found}, done earlier");
+        return true;
     }
-    println!(
-        "exhaustive: {} kinds, {calls} calls, {}",
-        chosen.len(),
-        if agreed { "0 differences" } else { "DIFFERENCES" }
-    );
-    agreed && !chosen.is_empty()
+    let first = first_difference(easing);
+    if first == u32::MAX {
+        println!("{found}");
+        note(&line);
+    } else {
+        show(easing, first);
+    }
+    first == u32::MAX
 }
 
 fn name(easing: &Easing) -> String {

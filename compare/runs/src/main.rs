@@ -50,7 +50,13 @@ fn main() -> ExitCode {
     }
 }
 
+/// What is held against what, by hashes of the archive and of the sources.
+fn compared() -> String {
+    format!("archive {}, sources {}", env!("LAXOMBIIT_HASH"), oracle::HASH)
+}
+
 fn random_run(seed: u64, cases: u64) -> bool {
+    println!("{}", compared());
     println!("seed {seed}, {cases} random cases behind the edges");
     let parts = edges::PARTS + cases.div_ceil(random::CASES);
     runner::run(parts, |part, runner| {

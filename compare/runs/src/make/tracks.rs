@@ -24,13 +24,13 @@ impl Maker {
 
     fn fill_frames(&mut self, t: &mut LaxTrack) {
         let count = t.count as usize;
-        let gaps = self.below(6);
+        let (gaps, junk) = (self.below(6), self.once_in(2));
         let mut time = if self.once_in(2) { 0.0 } else { self.first_time(gaps) };
         for place in 0..PLACES {
             if place < count {
                 t.frames[place] = LaxKeyframe { time, value: self.value(), easing: self.easing() };
                 time = self.later(time, gaps);
-            } else if gaps % 2 == 0 {
+            } else if junk {
                 t.frames[place].words_mut().iter_mut().for_each(|word| *word = self.word());
             }
         }
