@@ -1,27 +1,35 @@
 use super::Maker;
+use crate::rules::*;
 use crate::words::{LaxEasing, LaxLoop};
-
-/// The 26 kinds that are supplied.
-pub const SUPPLIED: [u32; 26] =
-    [0, 1, 2, 3, 4, 5, 6, 7, 8, 9, 10, 11, 12, 19, 20, 21, 22, 23, 24, 28, 29, 30, 31, 32, 34, 36];
 
 impl Maker {
     /// Supplied and within its limits; every third has something in the words that are not looked at.
     pub fn easing(&mut self) -> LaxEasing {
-        let kind = if self.once_in(3) { self.pick(&[31, 32, 34, 36]) } else { self.pick(&SUPPLIED) };
+        let kind = if self.once_in(3) {
+            self.pick(&[BEZIER, STEPS, SLOW_MO, CUSTOM_BOUNCE])
+        } else {
+            self.supplied()
+        };
         let junk = self.once_in(3);
         let [a, b, c, d] = [0; 4].map(|_| if junk { self.odd() } else { 0.0 });
         let easing = LaxEasing { kind, a, b, c, d, count: if junk { self.word() } else { 0 } };
         match kind {
-            31 if self.once_in(4) => {
+            BEZIER if self.once_in(4) => {
                 LaxEasing { a: self.end(), b: self.size(), c: self.end(), d: self.size(), ..easing }
             }
-            31 => LaxEasing { a: self.share(), b: self.size(), c: self.share(), d: self.size(), ..easing },
-            32 => LaxEasing { count: self.steps(), ..easing },
-            34 => LaxEasing { a: self.share(), b: self.size(), ..easing },
-            36 => LaxEasing { a: self.share(), ..easing },
+            BEZIER => {
+                LaxEasing { a: self.share(), b: self.size(), c: self.share(), d: self.size(), ..easing }
+            }
+            STEPS => LaxEasing { count: self.steps(), ..easing },
+            SLOW_MO => LaxEasing { a: self.share(), b: self.size(), ..easing },
+            CUSTOM_BOUNCE => LaxEasing { a: self.share(), ..easing },
             _ => easing,
         }
+    }
+
+    fn supplied(&mut self) -> u32 {
+        let easing = LaxEasing { kind: self.below(KINDS), ..LaxEasing::default() };
+        if is_one_of_twelve(&easing) { self.supplied() } else { easing.kind }
     }
 
     /// A Bezier's x, a ratio or a strength: any finite number, mostly from 0 to 1.

@@ -1,11 +1,11 @@
 use super::first;
 use crate::words::LaxEasing;
 
-const KINDS: u32 = 38;
-const BEZIER: u32 = 31;
-const STEPS: u32 = 32;
-const SLOW_MO: u32 = 34;
-const CUSTOM_BOUNCE: u32 = 36;
+pub const KINDS: u32 = 38;
+pub const BEZIER: u32 = 31;
+pub const STEPS: u32 = 32;
+pub const SLOW_MO: u32 = 34;
+pub const CUSTOM_BOUNCE: u32 = 36;
 /// Sine, Expo and Elastic in three forms each, RoughEase, Wiggle, ExpoScale.
 const TWELVE: [u32; 12] = [13, 14, 15, 16, 17, 18, 25, 26, 27, 33, 35, 37];
 
