@@ -1,4 +1,4 @@
-.PHONY: test lib
+.PHONY: test lib compare exhaustive power bench
 
 # Prove and test everything, from nothing.
 test:
@@ -7,3 +7,19 @@ test:
 # The C interface as an archive.
 lib:
 	@bash scripts/lib
+
+# Random inputs against the Rust, some minutes.
+compare: lib
+	@compare/run random
+
+# Every f32 from 0 to 1 for each easing, against the Rust. It goes on where it was stopped.
+exhaustive: lib
+	@compare/run exhaustive
+
+# Wrong answers that the short run has to notice.
+power: lib
+	@compare/run power
+
+# Times beside the Rust's.
+bench: lib
+	@compare/run bench
