@@ -1,0 +1,109 @@
+use super::{BEZIER, Case, counted, name_of};
+use crate::ffi::{lax_track_value_at, track_values_at};
+use crate::rules::last_time;
+use crate::{inputs, meaning, rust, side};
+use oracle::Easing;
+use std::hint::black_box;
+
+const SAMPLES: usize = 1_000;
+/// Of different times, so that no branch is learnt by heart.
+const BATCHES: usize = 8;
+
+pub fn cases() -> Vec<Case> {
+    let (mut single, mut batches) = (Vec::new(), Vec::new());
+    for frames in [2, 8, 64] {
+        for easing in [Easing::Linear, Easing::EaseInOutCubic, BEZIER, Easing::EaseInCirc] {
+            single.push(value_at(&easing, frames));
+            batches.push(sampled(&easing, frames));
+        }
+    }
+    batches.push(sampled(&Easing::EaseInQuad, 64));
+    single.extend(batches);
+    single
+}
+
+/// Of one value, the record being checked in each call.
+fn single_bar(easing: &Easing, frames: usize) -> Option<f64> {
+    match (easing, frames) {
+        (Easing::EaseInCirc, _) => None,
+        (_, 2) => Some(5.0),
+        (_, 64) => Some(10.0),
+        _ => None,
+    }
+}
+
+fn batch_bar(easing: &Easing, frames: usize) -> Option<f64> {
+    match (easing, frames) {
+        (Easing::EaseInOutCubic, _) => Some(0.8),
+        (Easing::CubicBezier(..), _) => Some(1.1),
+        (Easing::Linear, 2) => Some(0.8),
+        (Easing::Linear | Easing::EaseInQuad, 64) => Some(1.0),
+        _ => None,
+    }
+}
+
+fn value_at(easing: &Easing, frames: usize) -> Case {
+    let words = inputs::track(easing, frames);
+    let count = BATCHES * SAMPLES;
+    let (track, times) = (meaning::track(&words), inputs::below(last_time(&words), count));
+    let same = times.clone();
+    Case {
+        name: format!("value_at, {frames} frames, {}", name_of(easing)),
+        bar: single_bar(easing, frames),
+        answers: count as f64,
+        size: 1,
+        ours: side::filling(count, move |answers| {
+            for (answer, time) in answers.iter_mut().zip(&times) {
+                *answer = lax_track_value_at(words, *time);
+            }
+        }),
+        rust: side::filling(count, move |answers| {
+            let track = black_box(&track);
+            for (answer, time) in answers.iter_mut().zip(&same) {
+                *answer = rust::value_at(track, *time);
+            }
+        }),
+    }
+}
+
+/// The time is that of one sample.
+fn sampled(easing: &Easing, frames: usize) -> Case {
+    Case {
+        name: format!("batch of {SAMPLES}, {frames} frames, {}", name_of(easing)),
+        bar: batch_bar(easing, frames),
+        answers: (BATCHES * SAMPLES) as f64,
+        ..batch(easing, frames, SAMPLES)
+    }
+}
+
+/// The time is that of one call.
+fn batch(easing: &Easing, frames: usize, samples: usize) -> Case {
+    let words = inputs::track(easing, frames);
+    let count = BATCHES * samples;
+    let (track, times) = (meaning::track(&words), inputs::below(last_time(&words), count));
+    let same = times.clone();
+    Case {
+        name: format!("batch, {}, {frames} frames, {}", counted(samples, "sample"), name_of(easing)),
+        bar: None,
+        answers: BATCHES as f64,
+        size: samples,
+        ours: side::filling(count, move |answers| {
+            for (out, times) in answers.chunks_mut(samples).zip(times.chunks(samples)) {
+                assert_eq!(track_values_at(words, times, out).number, 0);
+            }
+        }),
+        rust: side::filling(count, move |answers| {
+            for (out, times) in answers.chunks_mut(samples).zip(same.chunks(samples)) {
+                rust::values_at(black_box(&track), times, out);
+            }
+        }),
+    }
+}
+
+pub fn growing_samples() -> Vec<Case> {
+    [1, 10, 100, 1_000, 10_000].map(|samples| batch(&Easing::Linear, 64, samples)).into()
+}
+
+pub fn growing_frames() -> Vec<Case> {
+    [2, 4, 8, 16, 32, 64].map(|frames| Case { size: frames, ..batch(&Easing::Linear, frames, 1_000) }).into()
+}
