@@ -3,14 +3,15 @@ use crate::cases::Case;
 use crate::side::Side;
 use std::time::{Duration, Instant};
 
+/// A round takes about as long as is said, or one pass. Rounds are short, so that other work on the machine
+/// leaves some of them alone.
 pub struct Plan {
     rounds: u32,
-    /// How long a round takes, about.
     round: Duration,
 }
 
-pub const STEADY: Plan = Plan { rounds: 15, round: Duration::from_millis(5) };
-pub const QUICK: Plan = Plan { rounds: 3, round: Duration::from_millis(1) };
+pub const STEADY: Plan = Plan { rounds: 100, round: Duration::from_micros(500) };
+pub const QUICK: Plan = Plan { rounds: 5, round: Duration::from_micros(100) };
 
 /// In nanoseconds.
 pub struct Least {

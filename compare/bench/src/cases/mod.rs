@@ -10,7 +10,7 @@ pub struct Case {
     pub name: String,
     /// The most that the ratio of ours to the Rust's is to be.
     pub bar: Option<f64>,
-    /// How many in a pass; the time is that of one.
+    /// In a pass; the time is that of one.
     pub answers: f64,
     /// What grows from case to case, in the second table.
     pub size: usize,
@@ -25,7 +25,7 @@ pub fn calls() -> Vec<Case> {
     cases
 }
 
-/// Cases that grow, together with those they grow from.
+/// Each a list along which one thing grows.
 pub fn growing() -> Vec<Vec<Case>> {
     vec![track::growing_samples(), track::growing_frames(), tween::growing_folds()]
 }
@@ -35,12 +35,4 @@ const BEZIER: Easing = Easing::CubicBezier(0.25, 0.1, 0.25, 1.0);
 fn name_of(easing: &Easing) -> String {
     let shown = format!("{easing:?}");
     shown.split(|c: char| !c.is_alphanumeric()).next().unwrap_or_default().to_string()
-}
-
-fn counted(count: usize, name: &str) -> String {
-    match count {
-        0 => format!("no {name}"),
-        1 => format!("1 {name}"),
-        _ => format!("{count} {name}s"),
-    }
 }

@@ -1,4 +1,4 @@
-use super::{BEZIER, Case, counted, name_of};
+use super::{BEZIER, Case, name_of};
 use crate::ffi::{lax_tween_update, lax_tween_value, tween_run};
 use crate::side::Stepped;
 use crate::words::LaxTween;
@@ -25,11 +25,19 @@ pub fn growing_folds() -> Vec<Case> {
     [0, 1, 10, 100, 1_000, 4_096].map(update).into()
 }
 
+fn folded(folds: u32) -> String {
+    match folds {
+        0 => "no fold".to_string(),
+        1 => "1 fold".to_string(),
+        _ => format!("{folds} folds"),
+    }
+}
+
 fn update(folds: u32) -> Case {
     let (first, steps) = inputs::stepping(folds, STEPS);
     let (begun, same) = (meaning::tween(&first), steps.clone());
     Case {
-        name: format!("update, {}", counted(folds as usize, "fold")),
+        name: format!("update, {}", folded(folds)),
         bar: None,
         answers: STEPS as f64,
         size: folds as usize,
@@ -76,14 +84,14 @@ fn value(easing: &Easing) -> Case {
 
 fn run(folds: u32) -> Case {
     let (first, steps) = inputs::stepping(folds, STEPS);
-    let (begun, same, mut folded) = (meaning::tween(&first), steps.clone(), vec![0; STEPS]);
+    let (begun, same, mut made) = (meaning::tween(&first), steps.clone(), vec![0; STEPS]);
     Case {
-        name: format!("run of {STEPS} steps, {} a step", counted(folds as usize, "fold")),
+        name: format!("run of {STEPS} steps, {} a step", folded(folds)),
         bar: Some(RUN_BAR),
         answers: STEPS as f64,
         size: STEPS,
         ours: side::filling(STEPS, move |values| {
-            assert_eq!(tween_run(first, &steps, values, &mut folded).number, 0);
+            assert_eq!(tween_run(first, &steps, values, &mut made).number, 0);
         }),
         rust: side::filling(STEPS, move |values| {
             rust::run(black_box(&mut begun.clone()), &same, values);
