@@ -76,6 +76,9 @@ fn easings(runner: &mut Runner) -> Tried<()> {
     }
     for (place, easing) in named.iter().enumerate() {
         runner.check(made, Input::Easing(EasingCall::Named(place as u32)))?;
+        let zeros = LaxEasing { kind: easing.kind, ..LaxEasing::default() };
+        let negative = LaxEasing { a: -0.0, b: -0.0, c: -0.0, d: -0.0, ..zeros };
+        runner.check(made, Input::Easing(EasingCall::Eq(zeros, negative)))?;
         for t in EDGES.iter() {
             runner.check(made, Input::Easing(EasingCall::Apply(*easing, *t)))?;
         }

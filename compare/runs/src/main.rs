@@ -22,7 +22,7 @@ use std::time::{SystemTime, UNIX_EPOCH};
 const USAGE: &str = "compare short
 compare random [--seed S] [--count CASES]
 compare exhaustive [--kind KIND]
-compare power";
+compare power [--only PLACE]";
 
 /// The cases of the short run, and of the random run where no count is given.
 const SHORT: u64 = 400_000;
@@ -37,7 +37,7 @@ fn main() -> ExitCode {
             Some(random_run(seed, option(&arguments, "--count").unwrap_or(RANDOM)))
         }
         Some("exhaustive") => Some(exhaustive::run(text_option(&arguments, "--kind"))),
-        Some("power") => Some(power::run()),
+        Some("power") => Some(power::run(option(&arguments, "--only"))),
         _ => None,
     };
     match agreed {

@@ -25,14 +25,14 @@ struct Change {
     edits: Vec<(String, String)>,
 }
 
-/// Whether every change was noticed.
-pub fn run() -> bool {
+/// Whether every change was noticed, or the one at a place from 1 on.
+pub fn run(only: Option<u64>) -> bool {
     let work = PathBuf::from(ROOT).join("target/power");
     let changes = fs::read_to_string(format!("{ROOT}/compare/changes.txt")).map(|text| read(&text, &work));
-    match changes.and_then(|changes| try_all(&work, &changes)) {
+    match changes.and_then(|changes| try_all(&work, &changes, only)) {
         Ok((noticed, all)) => {
             println!("power: {noticed} of {all} changes noticed");
-            noticed == all
+            all > 0 && noticed == all
         }
         Err(error) => {
             println!("power: {error}");
@@ -58,7 +58,8 @@ fn read(text: &str, work: &Path) -> Vec<Change> {
     changes
 }
 
-fn try_all(work: &Path, changes: &[Change]) -> io::Result<(usize, usize)> {
+/// How many changes were noticed, and how many tried.
+fn try_all(work: &Path, changes: &[Change], only: Option<u64>) -> io::Result<(usize, usize)> {
     let _ = fs::remove_dir_all(work.join("compare"));
     copy(&Path::new(ROOT).join("compare"), &work.join("compare"))?;
     let sources = Path::new(ROOT).join(env::var_os("ANIMATO_SRC").unwrap_or("../shared/docs/src".into()));
@@ -71,13 +72,14 @@ fn try_all(work: &Path, changes: &[Change]) -> io::Result<(usize, usize)> {
         return Err(io::Error::other(format!("the unchanged run: {unchanged}")));
     }
     println!("nothing changed: {unchanged}");
-    let mut noticed = 0;
-    for (place, change) in changes.iter().enumerate() {
+    let (mut noticed, mut tried) = (0, 0);
+    for (place, change) in (1..).zip(changes).filter(|(place, _)| only.is_none_or(|only| only == *place)) {
         let seen = with_change(change, || short_run(work))?;
-        println!("{:>3} {}: {seen}", place + 1, change.what);
+        println!("{place:>3} {}: {seen}", change.what);
         noticed += usize::from(seen.starts_with("caught"));
+        tried += 1;
     }
-    Ok((noticed, changes.len()))
+    Ok((noticed, tried))
 }
 
 fn copy(from: &Path, to: &Path) -> io::Result<()> {

@@ -3,7 +3,7 @@ use crate::input::{After, Input};
 use crate::make::Maker;
 use crate::runner::{Runner, Tried};
 use crate::subjects::*;
-use crate::words::{LaxTrack, LaxTween};
+use crate::words::{LaxTrack, LaxTween, Words};
 
 /// How many cases make a part of a run.
 pub const CASES: u64 = 500;
@@ -34,6 +34,9 @@ fn easings(maker: &mut Maker, runner: &mut Runner) -> Tried<()> {
     if maker.once_in(2) {
         other.kind = easing.kind;
     }
+    runner.check(made, Input::Easing(EasingCall::Eq(easing, other)))?;
+    other = easing;
+    other.words_mut()[maker.below(6) as usize] ^= maker.pick(&[1, 1 << 31]);
     runner.check(made, Input::Easing(EasingCall::Eq(easing, other)))?;
     runner.check(made, Input::Easing(EasingCall::Eq(easing, easing)))?;
     runner.check(made, Input::Easing(EasingCall::IsSupplied(easing)))?;

@@ -9,8 +9,8 @@ use std::hint::black_box;
 /// In a pass, each from the record that the one before handed back; the first from the same in every pass.
 const STEPS: usize = 1_000;
 
-/// So few that the records of both sides stay in the nearest cache.
-const TWEENS: usize = 200;
+/// Each with an elapsed of its own.
+const TWEENS: usize = 1_000;
 
 const UPDATE_BAR: f64 = 8.0;
 const RUN_BAR: f64 = 1.5;

@@ -13,6 +13,9 @@ impl Maker {
         let [a, b, c, d] = [0; 4].map(|_| if junk { self.odd() } else { 0.0 });
         let easing = LaxEasing { kind, a, b, c, d, count: if junk { self.word() } else { 0 } };
         match kind {
+            31 if self.once_in(4) => {
+                LaxEasing { a: self.end(), b: self.size(), c: self.end(), d: self.size(), ..easing }
+            }
             31 => LaxEasing { a: self.share(), b: self.size(), c: self.share(), d: self.size(), ..easing },
             32 => LaxEasing { count: self.steps(), ..easing },
             34 => LaxEasing { a: self.share(), b: self.size(), ..easing },
@@ -30,6 +33,11 @@ impl Maker {
             3 => Some(self.odd()).filter(|x| x.is_finite()).unwrap_or(0.5),
             _ => self.part(),
         }
+    }
+
+    /// A Bezier's x at an end of 0..1 or beyond, where its curve may be flat.
+    fn end(&mut self) -> f32 {
+        self.pick(&[0.0, -0.0, 1.0, -1.0, 2.0])
     }
 
     /// A Bezier's y or a power: at most 1,024 in size.

@@ -60,11 +60,14 @@ impl Maker {
 
     /// A progress: mostly from 0 to 1, of any size there.
     pub fn progress(&mut self) -> f32 {
-        match self.below(10) {
+        match self.below(12) {
             0..5 => self.part(),
-            5..7 => f32::from_bits(self.below(0x3f80_0001)),
-            7 => self.below(65) as f32 / 64.0,
-            8 => self.edge(),
+            5 => f32::from_bits(self.below(0x3f80_0001)),
+            6 => (-24.0 * self.part()).exp2(),
+            7 => 1.0 - (-24.0 * self.part()).exp2(),
+            8 => self.below(65) as f32 / 64.0,
+            9 => self.edge(),
+            10 => self.near(0.5),
             _ => self.any_float(),
         }
     }
