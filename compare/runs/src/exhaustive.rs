@@ -1,6 +1,7 @@
 //! Every f32 from 0 to 1, for each supplied kind at the parameters of `all_named`. A kind that is done is
 //! noted in a file, with the hashes of the archive and of the sources, and is left out the next time.
 use crate::compared;
+use crate::cores::on_all_cores;
 use crate::ffi::lax_easing_apply;
 use crate::meaning;
 use crate::rules::is_one_of_twelve;
@@ -8,8 +9,6 @@ use oracle::Easing;
 use std::fs::{self, OpenOptions};
 use std::io::Write;
 use std::sync::atomic::{AtomicU32, AtomicU64, Ordering::Relaxed};
-use std::thread;
-use std::time::{Duration, Instant};
 
 const DONE: &str = concat!(env!("CARGO_MANIFEST_DIR"), "/../../target/exhaustive.txt");
 const ONE: u32 = 0x3f80_0000;
@@ -66,28 +65,16 @@ fn show(easing: &Easing, bits: u32) {
 
 /// The bits of the least t whose answers differ; u32::MAX where there is none.
 fn first_difference(easing: &Easing) -> u32 {
-    let (next, first, ended) = (AtomicU64::new(0), AtomicU32::new(u32::MAX), AtomicU64::new(0));
-    let threads = thread::available_parallelism().map_or(1, |n| n.get()) as u64;
-    thread::scope(|scope| {
-        for _ in 0..threads {
-            scope.spawn(|| {
-                while let Ok(piece) = u32::try_from(next.fetch_add(u64::from(PIECE), Relaxed))
-                    && piece <= ONE
-                {
-                    first.fetch_min(first_in(easing, piece), Relaxed);
-                }
-                ended.fetch_add(1, Relaxed);
-            });
+    let (next, first) = (AtomicU64::new(0), AtomicU32::new(u32::MAX));
+    let work = || {
+        while let Ok(piece) = u32::try_from(next.fetch_add(u64::from(PIECE), Relaxed))
+            && piece <= ONE
+        {
+            first.fetch_min(first_in(easing, piece), Relaxed);
         }
-        let mut shown = Instant::now();
-        while ended.load(Relaxed) < threads {
-            thread::sleep(Duration::from_millis(50));
-            if shown.elapsed().as_secs() >= 10 {
-                shown = Instant::now();
-                eprintln!("{}: {} %", name(easing), next.load(Relaxed) * 100 / u64::from(ONE));
-            }
-        }
-    });
+    };
+    let part = || (next.load(Relaxed) * 100 / u64::from(ONE)).min(100);
+    on_all_cores(work, |seconds| eprintln!("{}, {seconds} s: {} %", name(easing), part()));
     first.into_inner()
 }
 

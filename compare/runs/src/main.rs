@@ -1,8 +1,10 @@
 //! The proved library held against animato's Rust. See compare/README.md.
+mod cores;
 mod difference;
 mod edges;
 mod exhaustive;
 mod ffi;
+mod headings;
 mod input;
 mod make;
 mod meaning;

@@ -116,24 +116,9 @@ fn with_change(change: &Change, run: impl FnOnce() -> io::Result<String>) -> io:
 
 /// Builds the copy and runs it; in one line what came of it.
 fn short_run(work: &Path) -> io::Result<String> {
-    let cargo = env::var_os("CARGO").unwrap_or("cargo".into());
-    let library = Path::new(ROOT).join(env::var_os("LAXOMBIIT_LIB").unwrap_or("target/lib".into()));
     let target = work.join("target");
-    let built = Command::new(cargo)
-        .args(["build", "--release", "--offline", "--quiet", "--manifest-path"])
-        .arg(work.join("compare/Cargo.toml"))
-        .env("ANIMATO_SRC", work.join("src").canonicalize()?)
-        .env("LAXOMBIIT_LIB", library.canonicalize()?)
-        .env("CARGO_TARGET_DIR", &target)
-        .env("CARGO_INCREMENTAL", "1")
-        .stderr(Stdio::piped())
-        .output()?;
-    if !built.status.success() {
-        let error = String::from_utf8_lossy(&built.stderr);
-        return Ok(format!(
-            "NOT BUILT: {}",
-            error.lines().find(|line| line.starts_with("error")).unwrap_or("")
-        ));
+    if let Some(error) = build(work, &target)? {
+        return Ok(format!("NOT BUILT: {error}"));
     }
     let out = work.join("out.txt");
     let run = Command::new(target.join("release/compare"))
@@ -145,6 +130,22 @@ fn short_run(work: &Path) -> io::Result<String> {
         return Ok(format!("NOT CAUGHT in {SECONDS} s"));
     }
     Ok(seen(&fs::read_to_string(out)?))
+}
+
+/// The first error, where there is one.
+fn build(work: &Path, target: &Path) -> io::Result<Option<String>> {
+    let library = Path::new(ROOT).join(env::var_os("LAXOMBIIT_LIB").unwrap_or("target/lib".into()));
+    let built = Command::new("cargo")
+        .args(["build", "--release", "--offline", "--quiet", "--manifest-path"])
+        .arg(work.join("compare/Cargo.toml"))
+        .env("ANIMATO_SRC", work.join("src").canonicalize()?)
+        .env("LAXOMBIIT_LIB", library.canonicalize()?)
+        .env("CARGO_TARGET_DIR", target)
+        .env("CARGO_INCREMENTAL", "1")
+        .output()?;
+    let errors = String::from_utf8_lossy(&built.stderr);
+    let first = errors.lines().find(|line| line.starts_with("error")).unwrap_or("cargo failed");
+    Ok((!built.status.success()).then(|| first.to_string()))
 }
 
 fn ended(mut run: Child) -> io::Result<bool> {
