@@ -20,10 +20,10 @@ mod rules;
 mod words;
 
 use cases::Case;
-use measure::{Plan, QUICK, STEADY};
-use report::Row;
+use measure::{Plan, QUICK, Row, STEADY};
 use std::env;
 use std::process::ExitCode;
+use std::time::{Duration, Instant};
 
 const USAGE: &str = "bench [--quick] [WORD ..]    the cases whose names have every word";
 
@@ -45,29 +45,32 @@ fn main() -> ExitCode {
 
 fn run(plan: &Plan, words: &[String]) -> Result<(), String> {
     let machine = report::machine();
-    let chosen = |mut cases: Vec<Case>| {
-        cases.retain(|case| words.iter().all(|word| case.name.contains(word)));
-        cases
-    };
-    let calls = chosen(cases::calls());
-    let growing: Vec<Vec<Case>> = cases::growing().into_iter().map(chosen).collect();
-    let count = calls.len() + growing.iter().map(Vec::len).sum::<usize>();
-    if count == 0 {
+    let is_chosen = |case: &Case| words.iter().all(|word| case.name.contains(word));
+    let rows = |cases: Vec<Case>| -> Vec<Row> { cases.into_iter().filter(is_chosen).map(Row::new).collect() };
+    let mut calls = rows(cases::calls());
+    let mut growing: Vec<Vec<Row>> = cases::growing().into_iter().map(rows).collect();
+    let mut all: Vec<&mut Row> = calls.iter_mut().chain(growing.iter_mut().flatten()).collect();
+    if all.is_empty() {
         return Err("no case has such a name".to_string());
     }
-    let mut done = 0;
-    let mut rows = |cases: Vec<Case>| -> Result<Vec<Row>, String> {
-        let measured = cases.into_iter().map(|mut case| {
-            done += 1;
-            eprintln!("{done} of {count}: {}", case.name);
-            measure::measure(&mut case, plan).map(|least| Row { case, least })
-        });
-        measured.collect()
-    };
-    let calls = rows(calls)?;
-    let growing = growing.into_iter().map(rows).collect::<Result<Vec<_>, _>>()?;
+    sweep(plan, &mut all)?;
     report::print_calls(&calls);
     report::print_growing(&growing);
     println!("{machine}");
+    Ok(())
+}
+
+fn sweep(plan: &Plan, rows: &mut [&mut Row]) -> Result<(), String> {
+    let (count, mut shown) = (rows.len(), Instant::now());
+    for sweep in 1..=plan.sweeps {
+        for (place, row) in rows.iter_mut().enumerate() {
+            if shown.elapsed() > Duration::from_secs(1) {
+                shown = Instant::now();
+                let name = &row.case.name;
+                eprintln!("sweep {sweep} of {}, case {} of {count}: {name}", plan.sweeps, place + 1);
+            }
+            row.measure(plan)?;
+        }
+    }
     Ok(())
 }

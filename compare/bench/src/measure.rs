@@ -3,34 +3,45 @@ use crate::cases::Case;
 use crate::side::Side;
 use std::time::{Duration, Instant};
 
-/// A round takes about as long as is said, or one pass. Rounds are short, so that other work on the machine
-/// leaves some of them alone.
+/// A round takes about as long as is said, or one pass. Rounds are short, and each case comes again in every
+/// sweep, so that other work on the machine leaves some of them alone.
 pub struct Plan {
+    pub sweeps: u32,
     rounds: u32,
     round: Duration,
 }
 
-pub const STEADY: Plan = Plan { rounds: 100, round: Duration::from_micros(500) };
-pub const QUICK: Plan = Plan { rounds: 5, round: Duration::from_micros(100) };
+pub const STEADY: Plan = Plan { sweeps: 5, rounds: 20, round: Duration::from_micros(500) };
+pub const QUICK: Plan = Plan { sweeps: 1, rounds: 5, round: Duration::from_micros(100) };
 
-/// In nanoseconds.
-pub struct Least {
+/// The least times so far, in nanoseconds.
+pub struct Row {
+    pub case: Case,
     pub ours: f64,
     pub rust: f64,
 }
 
-pub fn measure(case: &mut Case, plan: &Plan) -> Result<Least, String> {
-    let (ours, rust) = (passes(&mut *case.ours, plan), passes(&mut *case.rust, plan));
-    let mut least = Least { ours: f64::INFINITY, rust: f64::INFINITY };
-    for _ in 0..plan.rounds {
-        least.ours = least.ours.min(pass_time(&mut *case.ours, ours) / case.answers);
-        least.rust = least.rust.min(pass_time(&mut *case.rust, rust) / case.answers);
-        let (ours, rust) = (case.ours.sum(), case.rust.sum());
-        if ours != rust {
-            return Err(format!("{}: the answers differ, checksums {ours:016x} and {rust:016x}", case.name));
-        }
+impl Row {
+    pub fn new(case: Case) -> Self {
+        Self { case, ours: f64::INFINITY, rust: f64::INFINITY }
     }
-    Ok(least)
+
+    /// The rounds of one sweep.
+    pub fn measure(&mut self, plan: &Plan) -> Result<(), String> {
+        let Case { name, answers, ours, rust, .. } = &mut self.case;
+        let (our_passes, rust_passes) = (passes(&mut **ours, plan), passes(&mut **rust, plan));
+        for _ in 0..plan.rounds {
+            self.ours = self.ours.min(pass_time(&mut **ours, our_passes) / *answers);
+            self.rust = self.rust.min(pass_time(&mut **rust, rust_passes) / *answers);
+            let (our_sum, rust_sum) = (ours.sum(), rust.sum());
+            if our_sum != rust_sum {
+                return Err(format!(
+                    "{name}: the answers differ, checksums {our_sum:016x} and {rust_sum:016x}"
+                ));
+            }
+        }
+        Ok(())
+    }
 }
 
 /// How many passes make a round. The first pass warms up.

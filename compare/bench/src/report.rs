@@ -1,17 +1,11 @@
 //! The tables, in markdown, and what they were measured on.
-use crate::cases::Case;
-use crate::measure::Least;
+use crate::measure::Row;
 use std::fs;
 use std::process::Command;
 
-pub struct Row {
-    pub case: Case,
-    pub least: Least,
-}
-
 impl Row {
     fn ratio(&self) -> f64 {
-        self.least.ours / self.least.rust
+        self.ours / self.rust
     }
 
     fn is_met(&self) -> Option<bool> {
@@ -35,7 +29,7 @@ pub fn print_calls(rows: &[Row]) {
     }
     println!("| case | ours, ns | Rust, ns | ratio | bar |\n|---|--:|--:|--:|---|");
     for row in rows {
-        let (name, ours, rust) = (&row.case.name, shown(row.least.ours), shown(row.least.rust));
+        let (name, ours, rust) = (&row.case.name, shown(row.ours), shown(row.rust));
         println!("| {name} | {ours} | {rust} | {:.2} | {} |", row.ratio(), row.bar());
     }
     let bars: Vec<bool> = rows.iter().filter_map(Row::is_met).collect();
@@ -53,7 +47,7 @@ pub fn print_growing(groups: &[Vec<Row>]) {
     for group in groups {
         for (place, row) in group.iter().enumerate() {
             let before = place.checked_sub(1).map(|place| &group[place]);
-            let (name, ours, rust) = (&row.case.name, shown(row.least.ours), shown(row.least.rust));
+            let (name, ours, rust) = (&row.case.name, shown(row.ours), shown(row.rust));
             println!("| {name} | {ours} | {rust} | {:.2} | {} |", row.ratio(), more(before, row));
         }
     }
@@ -64,8 +58,8 @@ pub fn print_growing(groups: &[Vec<Row>]) {
 fn more(before: Option<&Row>, row: &Row) -> String {
     let Some(before) = before else { return " | ".to_string() };
     let size = (row.case.size - before.case.size) as f64;
-    let ours = (row.least.ours - before.least.ours) / size;
-    let rust = (row.least.rust - before.least.rust) / size;
+    let ours = (row.ours - before.ours) / size;
+    let rust = (row.rust - before.rust) / size;
     format!("{} | {}", shown(ours), shown(rust))
 }
 
