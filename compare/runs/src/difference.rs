@@ -54,7 +54,7 @@ fn hold<T: Words>(
     Ok(())
 }
 
-pub fn same_length(what: String, ours: usize, expected: usize) -> Result<(), Difference> {
+pub fn same_count(what: String, ours: usize, expected: usize) -> Result<(), Difference> {
     if ours == expected { Ok(()) } else { differ(what, ours.to_string(), expected.to_string()) }
 }
 

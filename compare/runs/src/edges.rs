@@ -9,31 +9,10 @@ use crate::subjects::*;
 use crate::words::*;
 use oracle::Easing;
 
+/// What the rules say of counts, kinds, modes and states, and one beside each.
 const COUNTS: [u32; 24] = [
-    0,
-    1,
-    2,
-    3,
-    4,
-    5,
-    6,
-    12,
-    13,
-    31,
-    37,
-    38,
-    63,
-    64,
-    65,
-    4_096,
-    65_535,
-    65_536,
-    65_537,
-    16_777_215,
-    16_777_216,
-    16_777_217,
-    u32::MAX - 1,
-    u32::MAX,
+    0, 1, 2, 3, 4, 5, 6, 12, 13, 31, 37, 38, 63, 64, 65, 4_096, 65_535, 65_536, 65_537, 16_777_215,
+    16_777_216, 16_777_217, !1, !0,
 ];
 
 const TWEENS: u64 = 5 * 4;

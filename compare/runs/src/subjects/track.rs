@@ -1,4 +1,4 @@
-use crate::difference::{Difference, answered, must, same_bits, same_length, same_list};
+use crate::difference::{Difference, answered, must, same_bits, same_count, same_list};
 use crate::ffi::*;
 use crate::meaning;
 use crate::rules;
@@ -174,8 +174,8 @@ impl TrackCall {
             expected.iter_mut().zip(sampled).for_each(|(place, value)| *place = value);
         }
         let name = self.name();
-        same_length(format!("{name}: number"), answer.number as usize, number as usize)?;
-        same_length(format!("{name}: filled"), answer.filled, filled)?;
+        same_count(format!("{name}: number"), answer.number as usize, number as usize)?;
+        same_count(format!("{name}: filled"), answer.filled, filled)?;
         same_list(&format!("{name}: out"), Float, &bits(&ours), &bits(&expected), filled)?;
         same_list(&format!("{name}: times"), Float, &bits(&lent), &bits(times), 0)?;
         Ok((number, None))

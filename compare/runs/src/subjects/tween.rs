@@ -1,4 +1,4 @@
-use crate::difference::{Difference, answered, must, same_bits, same_length, same_list};
+use crate::difference::{Difference, answered, must, same, same_bits, same_count, same_list};
 use crate::ffi::*;
 use crate::meaning;
 use crate::rules::{self, LIMIT, folds};
@@ -135,12 +135,12 @@ impl TweenCall {
         let ours = tween_run(*t, &lent, &mut our_values[..values], &mut our_folds[..folds]);
         let expected = ran(t, steps, &mut all_values[..values], &mut all_folds[..folds]);
         let name = self.name();
-        same_length(format!("{name}: number"), ours.number as usize, expected.number as usize)?;
-        same_length(format!("{name}: done"), ours.done, expected.done)?;
+        same_count(format!("{name}: number"), ours.number as usize, expected.number as usize)?;
+        same_count(format!("{name}: done"), ours.done, expected.done)?;
         if expected.done == 0 {
             same_bits(name, &ours.tween, t)?;
         } else {
-            answered(name, 0, ours.tween, *t, || expected.tween)?;
+            same(name, &ours.tween, &expected.tween)?;
         }
         same_list(&format!("{name}: values"), Float, &bits(&our_values), &bits(&all_values), expected.done)?;
         same_list(&format!("{name}: folds"), Whole, &our_folds, &all_folds, expected.done)?;
