@@ -1,4 +1,8 @@
-.PHONY: test lib compare exhaustive power bench
+.PHONY: run test lib compare exhaustive power bench
+
+# The worked examples, and a ramp sampled to a table.
+run:
+	@bash scripts/run
 
 # Prove and test everything, from nothing.
 test:
