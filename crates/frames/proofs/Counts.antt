@@ -33,8 +33,8 @@ module _ (t : Float) where
   next : (l : List Float) (m i : ℕ) → i < m → countOf t (drop i (take m l)) ≡ boolByte (le (getD l i nan) t) + countOf t (drop (suc i) (take m l))
   unfolding countOf
   next l zero i h = absurd (omega (arith, h))
-  next [] (suc m) zero h = rw not-nan refl
-  next [] (suc m) (suc i) h = rw not-nan refl
+  next [] (suc m) zero h = rw not-nan
+  next [] (suc m) (suc i) h = rw not-nan
   next (x ∷ xs) (suc m) zero h = one-more (le x t) (countOf t (take m xs))
   next (x ∷ xs) (suc m) (suc i) h = next xs m i (omega (arith, h))
 
@@ -58,10 +58,10 @@ module _ (t : Float) where
       go true e = absurd (false≢true (sym z ∙ is-true (le p t) (le-chain p (k .time) t (lt-le p (k .time) (head-above p k ks f)) (holds (le (k .time) t) e))))
       go false e = refl
 
-  -- without the last, which is past t
+  -- without the last, which is past t, the count is how many from the front are passed
   front-passed : (p : Float) (k : Keyframe) (ks : List Keyframe) → framesAfter p (k ∷ ks) ≡ true → le (getD (k ∷ ks) (length ks) noFrame .time) t ≡ false → countOf t (take (length ks) (timesOf (k ∷ ks))) ≡ passedOf t (k ∷ ks)
   unfolding countOf leading
-  front-passed p k [] f z = rw z refl
+  front-passed p k [] f z = rw z
   front-passed p k (j ∷ ks) f z =
       let r = front-passed (k .time) j ks (rest-fine p k (j ∷ ks) f) z in
       go (le (k .time) t) refl r
@@ -71,6 +71,7 @@ module _ (t : Float) where
       go true e r = ap suc r
       go false e r = r ∙ rw (still-past (k .time) j ks (rest-fine p k (j ∷ ks) f) e) refl
 
+  -- between the first time and the last one frame more is passed than is counted: the first
   pub counted-passed : (p : Float) (l : List Keyframe) → framesAfter p l ≡ true → 1 < length l → le (firstOf l .time) t ≡ true → le (lastOf l .time) t ≡ false → passedOf t l ≡ counted (timesOf l) t (length l - 1) + 1
   unfolding leading
   counted-passed p [] f h a z = absurd (omega (arith, h))

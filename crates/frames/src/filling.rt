@@ -10,7 +10,7 @@ use crate::sampling::cut;
 use crate::sampling::pick;
 use crate::search::interval;
 
-// The times of the first n frames, in the first n places.
+// Only the first n places are filled.
 fn times_of(frames: [Keyframe; 64], n: usize) -> [f32; 64]
     requires { ⌜ n ≤ 64 ⌝ }
     ensures { λ r. ⌜ take n r ≡ timesOf (take n frames) ⌝ }
