@@ -9,7 +9,8 @@ use lib.ListN.{length, take, drop, getD}
 use lib.Seq.{take-take}
 use lib.Ieee.{Float, nan, le}
 use lib.Ieee.Bits.{is-true}
-use mir.Val.{boolByte}
+use mir.Syntax.{w32}
+use mir.Val.{Fits, boolByte}
 use Rattle.math.proofs.Order.{lt-le, le-chain}
 use Rattle.frames.specs.declared.frame.Keyframe.{Keyframe}
 use Rattle.frames.specs.Limits.{framesAfter, noFrame}
@@ -17,9 +18,13 @@ use Rattle.frames.specs.Counting.{countOf, counted}
 use Rattle.frames.specs.Sampling.{timesOf, leading, passedOf, firstOf, lastOf}
 use Rattle.frames.proofs.Rising.{holds, rest-fine, head-above}
 
-pub byte-most : (b : Bool) → boolByte b ≤ 1
-byte-most true = omega arith
-byte-most false = omega arith
+-- a test adds at most 1
+pub byte-below : (b : Bool) (c i : ℕ) → c < i → c + boolByte b < i + 1
+byte-below true c i h = omega arith
+byte-below false c i h = omega arith
+
+pub byte-fits : (b : Bool) (c i : ℕ) → c < i → i ≤ 63 → Fits w32 (c + boolByte b)
+byte-fits b c i h m = omega (arith, byte-below b c i h)
 
 module _ (t : Float) where
   one-more : (b : Bool) (c : ℕ) → cond b (suc c) c ≡ boolByte b + c

@@ -1,14 +1,12 @@
 -- `interval` meets its contract. The invariant: what is counted and what is left to count make the whole count. The measure is the places that are left. Assumes nothing.
 use Prim.Native.Nat.{_+_, _-_, _<_, _≤_}
 use mathlib.Core.Path.{_≡_}
-use mathlib.Core.Bool.{Bool}
 use native.Mathlib.Omega.{arith}
 use borrow.Author.Needs.{needs}
 use denote.Ref.{now}
-use lib.ListN.{take, drop, getD}
-use lib.Ieee.{nan, le}
+use lib.ListN.{take, drop}
 use Rattle.frames.specs.Counting.{countOf, counted}
-use Rattle.frames.proofs.Counts.{byte-most, count-next, count-past}
+use Rattle.frames.proofs.Counts.{byte-below, byte-fits, count-next, count-past}
 use Rattle.frames.proofs.search.interval.Statement.{statement}
 use Rattle.frames.proofs.search.interval.Tie as tie
 
@@ -17,10 +15,6 @@ Inv-loop times n t last count₀ i₀ count i = (count < i) × (i ≤ 63) × (co
 
 abbrev μ-loop : tie.MeasureT-loop
 μ-loop times n t last count₀ i₀ count i = last - i
-
--- the test at the place that is looked at
-abbrev tested : tie.After-count Inv-loop μ-loop → Bool
-tested c = le (getD (now (c .before .before .before .args .times)) (c .before .before .loop .i) nan) (c .before .before .before .args .t)
 
 pub interval-spec : {M : Type 1} → statement M
 interval-spec =
@@ -33,13 +27,13 @@ interval-spec =
     (λ c. search needs)
     (λ c. search needs)
     (λ c. search needs)
-    (λ c. omega (arith, byte-most (tested c)))
+    (λ c. search (needs, byte-fits))
     (λ c. search needs)
     (λ c. search needs)
     (λ c.
     let s = c .before .before in
     let b = s .before in
-    (omega (arith, byte-most (tested c)), omega arith, omega (arith, s .loop .inv .2, count-next (b .args .t) (now (b .args .times)) (b .args .n - 1) (s .loop .i) (c .before .loop-test .taken))))
+    (search (needs, byte-below), omega arith, omega (arith, s .loop .inv .2, count-next (b .args .t) (now (b .args .times)) (b .args .n - 1) (s .loop .i) (c .before .loop-test .taken))))
     (λ c. search needs)
     (λ c.
     let s = c .before in
