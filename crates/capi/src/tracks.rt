@@ -28,10 +28,12 @@ use words::LaxKeyframe;
 use words::LaxLoop;
 use words::LaxTrack;
 use words::LoopRead;
+use words::Quick;
 use words::easing_of;
 use words::easing_words;
 use words::is_known;
 use words::loop_of;
+use words::quick_value_at;
 use words::track_of;
 use words::track_words;
 
@@ -90,6 +92,9 @@ pub extern "C" fn lax_track_looping(w: LaxTrack, mode: LaxLoop) -> LaxTrackChang
 pub extern "C" fn lax_track_value_at(w: LaxTrack, secs: f32) -> LaxValue
     ensures { λ r. ⌜ r ≡ laxTrackValueAt w secs ⌝ }
 {
+    if let Quick::Value(v) = quick_value_at(w, secs) {
+        return LaxValue { number: 0, value: v };
+    }
     if is_known(w) {
         return value_words(track_of(w).value_at(Seconds(secs)));
     }
