@@ -93,7 +93,10 @@ pub extern "C" fn lax_track_value_at(w: LaxTrack, secs: f32) -> LaxValue
     ensures { λ r. ⌜ r ≡ laxTrackValueAt w secs ⌝ }
 {
     if let Quick::Value(v) = quick_value_at(w, secs) {
-        return LaxValue { number: 0, value: v };
+        return LaxValue {
+            number: 0,
+            value: v,
+        };
     }
     if is_known(w) {
         return value_words(track_of(w).value_at(Seconds(secs)));

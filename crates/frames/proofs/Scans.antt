@@ -58,7 +58,7 @@ module _ (fs : List Keyframe) (t : Float) where
 
 -- what is picked beside the place that was found is the sample
 module _ (fs : List Keyframe) (n : ℕ) (some : 1 ≤ n) (fit : n ≤ length fs) (most : n ≤ 64) (fine : framesOf (take n fs) ≡ true)
-  (secs t : Float) (cut : t ≡ cutOf (maxZeroOf secs) (getD fs (n - 1) noFrame .time)) (low : ℕ) (s : Scanned fs t low n) where
+    (secs t : Float) (cut : t ≡ cutOf (maxZeroOf secs) (getD fs (n - 1) noFrame .time)) (low : ℕ) (s : Scanned fs t low n) where
   pub scan-found : le t (getD fs 0 noFrame .time) ≡ false → le (getD fs (n - 1) noFrame .time) t ≡ false → Interval (timesOf fs) t (n - 1) low
   scan-found a z = scan-all fs t n low some s (started fs n some fit most fine t (real fs n some fit most fine secs t cut) a) z
 
