@@ -18,6 +18,7 @@ use crate::track_answers::refused;
 use crate::track_answers::stood;
 use crate::track_answers::track_changed_words;
 use crate::track_answers::track_updated_words;
+use easing::Eased;
 use easing::Easing;
 use keyframe::Track;
 use units::Progress;
@@ -93,10 +94,7 @@ pub extern "C" fn lax_track_value_at(w: LaxTrack, secs: f32) -> LaxValue
     ensures { λ r. ⌜ r ≡ laxTrackValueAt w secs ⌝ }
 {
     if let Quick::Value(v) = quick_value_at(w, secs) {
-        return LaxValue {
-            number: 0,
-            value: v,
-        };
+        return value_words(Eased::Value(v));
     }
     if is_known(w) {
         return value_words(track_of(w).value_at(Seconds(secs)));

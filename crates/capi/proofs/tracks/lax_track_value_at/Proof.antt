@@ -10,9 +10,16 @@ lax-track-value-at-spec =
     tie.close
     (tie.spec
     (λ c κs. search needs)
+    (λ c. search needs)
+    (λ c κs. search needs)
+    (λ c.
+    let q = rw (c .before .before .v .given .1) at (c .before .before .before .before .quick-value-at .ensures) in
+    rw (c .value-words .ensures, q .0, q .1))
+    (λ c. search needs)
     (λ c κs. search needs)
     (λ c κs. search needs)
     (λ c κs. search needs)
-    (λ c. simp (← (c .before .before .before .before .is-known .ensures), c .before .before .before .if1 .taken, c .value-words .ensures, c .before .value-at .ensures, c .before .before .track-of .ensures))
+    (λ c κs. search needs)
+    (λ c. simp (← (c .before .before .before .before .is-known .ensures), c .before .before .before .if1 .taken, c .value-words2 .ensures, c .before .value-at .ensures, c .before .before .track-of .ensures))
     (λ c κs. search needs)
     (λ c. simp (← (c .before .before .is-known .ensures), c .before .if1 .left, c .no-value .ensures)))
