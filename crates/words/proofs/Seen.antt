@@ -33,22 +33,29 @@ use Rattle.words.specs.declared.sampling.Quick.the-variants.{Value}
 use Rattle.words.specs.Kinds.{withParameters, easingFrom}
 use Rattle.words.specs.Modes.{loopFrom}
 use Rattle.words.specs.Tracks.{placesIn, easingIn, loopIn, blanks, knownKinds, knownTrack, frameFrom, framesFrom, trackFrom}
-use Rattle.words.specs.Sampling.{easingFits, QuickValue}
+use Rattle.words.specs.Sampling.{easingFits, quickOf}
 use Rattle.words.proofs.Known.{noWords, all-places, known-step, known-end}
 
 -- the frames that the words stand for, with the places behind them
 abbrev pub framesRead : LaxTrack → List Keyframe
 framesRead w = framesFrom (w .frames) (w .count)
 
+-- no frame is passed yet; the last that is passed is at `before`
+abbrev pub AtStart : Float → ℕ → Type 0
+AtStart before i = (i ≡ 0) × (before ≡ beforeAll)
+
+abbrev pub Past : LaxTrack → Float → ℕ → Type 0
+Past w before i = (0 < i) × (before ≡ getD (w .frames) (i - 1) noWords .time) × Up before
+
 -- after i frames, the last at `before`: they are known; they are within their limits where `before` is no later than a time may be; low is the place of t
 pub record Seen (w : LaxTrack) (t before : Float) (low i : ℕ) : Type 0 where
   pub known : knownKinds (take (w .count) (w .frames)) ≡ knownKinds (drop i (take (w .count) (w .frames)))
-  pub came : (i ≡ 0) ⊎ ((before ≡ getD (w .frames) (i - 1) noWords .time) × Up before)
+  pub came : AtStart before i ⊎ Past w before i
   pub fine : T (le before topF) → framesAfter before (drop i (take (w .count) (framesRead w))) ≡ framesOf (take (w .count) (framesRead w))
   pub scan : Scanned (framesRead w) t low i
 
 pub seen-none : (w : LaxTrack) (t : Float) → Seen w t beforeAll 0 0
-seen-none w t = record { known = refl; came = inl refl; fine = λ _. refl; scan = scan-none (framesRead w) t }
+seen-none w t = record { known = refl; came = inl (refl, refl); fine = λ _. refl; scan = scan-none (framesRead w) t }
 
 module _ (w : LaxTrack) (fit : w .count ≤ length (w .frames)) (most : w .count ≤ 64) where
   front-length : length (map frameFrom (take (w .count) (w .frames))) ≡ w .count
@@ -75,10 +82,10 @@ module _ (w : LaxTrack) (fit : w .count ≤ length (w .frames)) (most : w .count
 
     module _ (above : lt before (getD (w .frames) i noWords .time) ≡ true) where
       next-up : Up (k .time)
-      next-up = ⊎-elim (λ (z : i ≡ 0). rw z (time-clock _ start .0)) (λ (c : (before ≡ getD (w .frames) (i - 1) noWords .time) × Up before). lt-le zeroF (k .time) (le-lt-chain zeroF before (k .time) (c .1) (holds _ above))) (s .came)
+      next-up = ⊎-elim (λ (z : AtStart before i). rw (z .0) (time-clock _ start .0)) (λ (c : Past w before i). lt-le zeroF (k .time) (le-lt-chain zeroF before (k .time) (c .2) (holds _ above))) (s .came)
 
       next-time : T (le (k .time) topF) → timeOf (k .time) ≡ true
-      next-time m = ⊎-elim (λ (z : i ≡ 0). rw z start) (λ (c : (before ≡ getD (w .frames) (i - 1) noWords .time) × Up before). later-time before (k .time) (c .1) (holds _ above) m) (s .came)
+      next-time m = ⊎-elim (λ (z : AtStart before i). rw (z .0) start) (λ (c : Past w before i). later-time before (k .time) (c .2) (holds _ above) m) (s .came)
 
       module _ (value : valueOf (getD (w .frames) i noWords .value) ≡ true) (easing : easingFits (getD (w .frames) i noWords .easing) ≡ true) where
         next-known : ltb (k .easing .kind) 38 ≡ true
@@ -100,7 +107,7 @@ module _ (w : LaxTrack) (fit : w .count ≤ length (w .frames)) (most : w .count
             let e : i + 1 - 1 ≡ i = omega arith in
             record {
               known = s .known ∙ (known-step (w .frames) (w .count) fit i here ∙ rw next-known);
-              came = inr (rw e, next-up);
+              came = inr (omega arith, rw e, next-up);
               fine = next-fine;
               scan = r;
             }
@@ -127,7 +134,7 @@ module _ (w : LaxTrack) (secs t : Float) (low : ℕ) (x : Ended w secs t low) wh
   time = time-at w (x .fit) (x .most)
 
   last-top : T (le (x .before) topF)
-  last-top = ⊎-elim (λ (z : w .count ≡ 0). absurd (omega (arith, z, x .some))) (λ (c : (x .before ≡ getD (w .frames) (w .count - 1) noWords .time) × Up (x .before)). rw (c .0) (time-top _ (x .end))) (x .seen .came)
+  last-top = ⊎-elim (λ (z : AtStart (x .before) (w .count)). absurd (omega (arith, z .0, x .some))) (λ (c : Past w (x .before) (w .count)). rw (c .1) (time-top _ (x .end))) (x .seen .came)
 
   all-fine : framesOf (take (w .count) (framesRead w)) ≡ true
   all-fine = sym (x .seen .fine last-top) ∙ after-end (framesRead w) (w .count) long (x .before)
@@ -145,9 +152,9 @@ module _ (w : LaxTrack) (secs t : Float) (low : ℕ) (x : Ended w secs t low) wh
       sym (clocked (trackFrom w) (x .most) all-fine _ (last-time (framesRead w) (w .count) long (λ z. omega (arith, z, x .some)) ∙ time (w .count - 1) (omega (arith, x .some))))
       ∙ clock-parts .1
 
-  sampled : (v : Float) → v ≡ sampleOf (take (w .count) (framesRead w)) secs → QuickValue w secs (Value v)
-  unfolding valueAtOf trackFrom
-  sampled v e = (all-known, rw (all-within, lt-ltb 0 (w .count) (x .some), e))
+  sampled : (v : Float) → v ≡ sampleOf (take (w .count) (framesRead w)) secs → Value v ≡ quickOf w secs
+  unfolding quickOf valueAtOf trackFrom
+  sampled v e = rw (all-known, all-within, lt-ltb 0 (w .count) (x .some), e)
 
   cut-read : t ≡ cutOf (maxZeroOf secs) (getD (framesRead w) (w .count - 1) noFrame .time)
   cut-read = rw (time (w .count - 1) (omega (arith, x .some))) (x .cut)
@@ -155,12 +162,12 @@ module _ (w : LaxTrack) (secs t : Float) (low : ℕ) (x : Ended w secs t low) wh
   picked : pickOf (getD (framesRead w) 0 noFrame) (getD (framesRead w) (w .count - 1) noFrame) (getD (framesRead w) low noFrame) (getD (framesRead w) (low + 1) noFrame) t ≡ sampleOf (take (w .count) (framesRead w)) secs
   picked = scan-picked (framesRead w) (w .count) (x .some) long (x .most) all-fine secs t cut-read low (x .seen .scan)
 
-  pub quick-first : le t (getD (w .frames) 0 noWords .time) ≡ true → QuickValue w secs (Value (getD (w .frames) 0 noWords .value))
+  pub quick-first : le t (getD (w .frames) 0 noWords .time) ≡ true → Value (getD (w .frames) 0 noWords .value) ≡ quickOf w secs
   unfolding frameFrom
   quick-first a = sampled _ (rw (frame 0 (x .some), a) at picked)
 
   module _ (a : le t (getD (w .frames) 0 noWords .time) ≡ false) where
-    pub quick-last : le (getD (w .frames) (w .count - 1) noWords .time) t ≡ true → QuickValue w secs (Value (getD (w .frames) (w .count - 1) noWords .value))
+    pub quick-last : le (getD (w .frames) (w .count - 1) noWords .time) t ≡ true → Value (getD (w .frames) (w .count - 1) noWords .value) ≡ quickOf w secs
     unfolding frameFrom
     quick-last z = sampled _ (rw (frame 0 (x .some), a, frame (w .count - 1) (omega (arith, x .some)), z) at picked)
 
@@ -168,7 +175,7 @@ module _ (w : LaxTrack) (secs t : Float) (low : ℕ) (x : Ended w secs t low) wh
       pub place-found : low < w .count - 1
       place-found = scan-found (framesRead w) (w .count) (x .some) long (x .most) all-fine secs t cut-read low (x .seen .scan) (rw (time 0 (x .some)) a) (rw (time (w .count - 1) (omega (arith, x .some))) z) .inside
 
-      pub quick-between : (v : Float) → v ≡ betweenOf (frameFrom (getD (w .frames) low noWords)) (frameFrom (getD (w .frames) (low + 1) noWords)) t → QuickValue w secs (Value v)
+      pub quick-between : (v : Float) → v ≡ betweenOf (frameFrom (getD (w .frames) low noWords)) (frameFrom (getD (w .frames) (low + 1) noWords)) t → Value v ≡ quickOf w secs
       unfolding frameFrom
       quick-between v e =
           let h = place-found in

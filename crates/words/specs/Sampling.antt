@@ -1,10 +1,10 @@
 -- What is asked of a track's words to answer its value at a time without reading the track.
 use Prim.Native.Nat.{ℕ}
-use mathlib.Core.Path.{_≡_}
-use mathlib.Core.Bool.{Bool, true, _&&_, _||_}
+use mathlib.Core.Bool.{Bool, cond, _&&_, _||_}
 use lib.Dec.{ltb}
 use lib.Ieee.{Float}
 use Rattle.easing.specs.Apply.{fitsRecordOf}
+use Rattle.easing.specs.declared.answers.Eased.{Eased}
 use Rattle.easing.specs.declared.answers.Eased.the-variants as eased
 use Rattle.keyframe.specs.Sampling.{valueAtOf}
 use Rattle.words.specs.declared.kinds.LaxEasing.{LaxEasing}
@@ -22,7 +22,10 @@ plainKind kind = ltb kind 13 || ltb 18 kind && ltb kind 25 || ltb 27 kind && ltb
 unfoldable pub easingFits : LaxEasing → Bool
 easingFits w = ltb (w .kind) 38 && fitsRecordOf (easingIn (easingFrom w))
 
--- a value is that of the track; Unsure says nothing
-abbrev pub QuickValue : LaxTrack → Float → Quick → Type 0
-QuickValue w secs (Value v) = (knownTrack w ≡ true) × (valueAtOf (trackFrom w) secs ≡ eased.Value v)
-QuickValue w secs Unsure = Unit {0}
+abbrev pub quickFrom : Eased → Quick
+quickFrom (eased.Value v) = Value v
+quickFrom (eased.Refused r) = Unsure
+
+-- the track's value; Unsure where a word is not known or the call is to be refused
+unfoldable pub quickOf : LaxTrack → Float → Quick
+quickOf w secs = cond (knownTrack w) (quickFrom (valueAtOf (trackFrom w) secs)) Unsure

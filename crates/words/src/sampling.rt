@@ -5,7 +5,7 @@ ghost use lib.Dec.{ltb};
 ghost use Rattle.words.specs.Kinds.{easingFrom};
 ghost use Rattle.words.specs.Modes.{loopFrom};
 ghost use Rattle.words.specs.Tracks.{easingIn, loopIn, frameFrom};
-ghost use Rattle.words.specs.Sampling.{plainKind, easingFits, QuickValue};
+ghost use Rattle.words.specs.Sampling.{plainKind, easingFits, quickOf};
 ghost use Rattle.frames.specs.Sampling.{easedOf, betweenOf};
 ghost use Rattle.keyframe.specs.Limits.{clockFits};
 use crate::kinds::EasingRead;
@@ -17,7 +17,7 @@ use crate::tracks::LaxTrack;
 use crate::tracks::mode_of;
 use easing::Easing;
 
-// Unsure says nothing: a track that is refused, or a word that is not known.
+// Unsure: a word is not known, or the call is to be refused.
 pub enum Quick {
     Value(f32),
     Unsure,
@@ -69,7 +69,7 @@ fn clock_fits(looping: LaxLoop, elapsed: f32, base: f32) -> bool
 // The frames are looked at where they stand: a function that took them over would copy 2 KB. Times
 // ascend, so that of the limits of a time the first and the last are enough.
 pub fn quick_value_at(w: LaxTrack, secs: f32) -> Quick
-    ensures { λ r. ⌜ QuickValue w secs r ⌝ }
+    ensures { λ r. ⌜ r ≡ quickOf w secs ⌝ }
 {
     let n = w.count as usize;
     if (n == 0) | (64 < n) {

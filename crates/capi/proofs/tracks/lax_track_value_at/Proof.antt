@@ -1,5 +1,7 @@
 -- `lax_track_value_at` meets its contract, by what its callees ensure. Assumes nothing.
 use borrow.Author.Needs.{needs}
+use mathlib.Core.Path.{sym, _∙_}
+use Rattle.words.proofs.Quick.{quick-says}
 use Rattle.capi.specs.Tracks.{laxTrackValueAt}
 use Rattle.capi.proofs.tracks.lax_track_value_at.Statement.{statement}
 use Rattle.capi.proofs.tracks.lax_track_value_at.Tie as tie
@@ -13,7 +15,7 @@ lax-track-value-at-spec =
     (λ c. search needs)
     (λ c κs. search needs)
     (λ c.
-    let q = rw (c .before .before .v .given .1) at (c .before .before .before .before .quick-value-at .ensures) in
+    let q = quick-says _ _ _ (sym (c .before .before .before .before .quick-value-at .ensures) ∙ c .before .before .v .given .1) in
     rw (c .value-words .ensures, q .0, q .1))
     (λ c. search needs)
     (λ c κs. search needs)

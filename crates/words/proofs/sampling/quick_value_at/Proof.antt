@@ -1,11 +1,11 @@
 -- `quick_value_at` meets its contract. The invariant: what the walk has seen of the frames. The measure is the frames that are left. Assumes nothing.
 use Prim.Native.Nat.{_+_, _-_, _<_, _≤_}
 use mathlib.Core.Path.{_≡_, sym, _∙_}
-use mathlib.Core.Bool.{true, _&&_}
+use mathlib.Core.Bool.{true, _&&_, false≢true}
 use mathlib.Core.Logic.{⊎-elim}
 use native.Mathlib.Omega.{arith}
 use borrow.Author.Needs.{needs}
-use borrow.Author.Tests.{not-false}
+use borrow.Author.Tests.{not-true, not-false}
 use lib.Dec.{ltb}
 use lib.ListN.{length, getD}
 use lib.Ieee.{ofBits, neg, lt}
@@ -17,6 +17,8 @@ use Rattle.words.specs.Modes.{loopFrom}
 use Rattle.words.specs.Tracks.{loopIn}
 use Rattle.words.proofs.Known.{words-long, few-places, noWords}
 use Rattle.words.proofs.Seen.{Seen, Ended, seen-none, seen-more, time-at, framesRead, quick-first, quick-last, place-found, quick-between}
+use Rattle.words.proofs.Tested.{unsure}
+use Rattle.words.proofs.Tested as tested
 use Rattle.words.proofs.sampling.quick_value_at.Statement.{statement}
 use Rattle.words.proofs.sampling.quick_value_at.Tie as tie
 
@@ -75,7 +77,10 @@ quick-value-at-spec =
     Inv-loop
     μ-loop
     (λ c. search needs)
-    (λ c. search needs)
+    (λ c.
+    let b = c .before in
+    let w = b .args .t1 in
+    unsure w (b .args .secs) (λ x. false≢true (sym (tested.counted w (words-long w _ (b .good .0)) x) ∙ c .if1 .taken)))
     (λ c. search needs)
     (λ c. counted (c .before) .0)
     (λ c. let h = counted (c .before) in omega arith)
@@ -83,7 +88,16 @@ quick-value-at-spec =
     (λ c κs. search needs)
     (λ c κs. search needs)
     (λ c κs. search needs)
-    (λ c. search needs)
+    (λ c.
+    let b = c .before .before .before .before .before .before .before .before in
+    let w = b .args .t1 in
+    let l = words-long w _ (b .good .0) in
+    unsure w (b .args .secs)
+    (λ x.
+    let first = c .before .before .before .before .is-time .ensures ∙ tested.time w l x 0 (x .some) in
+    let last = c .before .before .before .is-time2 .ensures ∙ tested.time w l x (w .count - 1) (omega (arith, x .some)) in
+    let clock = c .before .clock-fits .ensures ∙ tested.clock w l x in
+    false≢true (sym (rw (first, last, clock) at (not-true (c .before .before .before .before .is-time .result && c .before .before .before .is-time2 .result && c .before .clock-fits .result) (c .if2 .taken))))))
     (λ c κs. search needs)
     (λ c κs. search needs)
     (λ c. (omega arith, seen-none _ _))
@@ -109,7 +123,18 @@ quick-value-at-spec =
     let low = s .loop .low in
     let scan : Scanned (framesRead w) t (c .if4 .low) (s .loop .i + 1) = ⊎-elim (λ h. rw (h .1) (scan-yes (framesRead w) t low (s .loop .i) (s .loop .inv .1 .scan) (rw (time-at w fit (few .1) (s .loop .i) here) (h .0 .taken)))) (λ h. rw (h .1) (scan-no (framesRead w) t low (s .loop .i) (s .loop .inv .1 .scan) (rw (time-at w fit (few .1) (s .loop .i) here) (h .0 .left)))) (c .if4 .came) in
     (omega arith, seen-more w fit (few .1) t (s .loop .before) low (s .loop .i) (s .loop .inv .1) here (ready (s .before .before .before) .0) (q .0) (sym (v .ensures) ∙ q .1) (sym (f .ensures) ∙ p .1) (c .if4 .low) scan))
-    (λ c. search needs)
+    (λ c.
+    let s = c .before .before .before .before .before .before in
+    let b = s .before .before .before .before .before .before .before .before .before .before .before in
+    let w = b .args .t1 in
+    let l = words-long w _ (b .good .0) in
+    let here : s .loop .i < w .count = omega arith in
+    unsure w (b .args .secs)
+    (λ x.
+    let later = tested.later w l x _ _ _ (s .loop .i) (s .loop .inv .1) here in
+    let value = c .before .before .is-value .ensures ∙ tested.value w l x (s .loop .i) here in
+    let easing = c .before .easing-fits .ensures ∙ tested.easing w l x (s .loop .i) here in
+    false≢true (sym (rw (later, value, easing) at (c .if3 .left)))))
     (λ c. quick-first _ _ _ _ (ended (c .before .before)) (c .if5 .taken))
     (λ c. quick-last _ _ _ _ (ended (c .before .before .before .before)) (c .before .before .if5 .left) (c .if6 .taken))
     (λ c.
