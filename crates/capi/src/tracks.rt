@@ -18,6 +18,7 @@ use crate::track_answers::refused;
 use crate::track_answers::stood;
 use crate::track_answers::track_changed_words;
 use crate::track_answers::track_updated_words;
+use easing::Eased;
 use easing::Easing;
 use keyframe::Track;
 use units::Progress;
@@ -28,10 +29,12 @@ use words::LaxKeyframe;
 use words::LaxLoop;
 use words::LaxTrack;
 use words::LoopRead;
+use words::Quick;
 use words::easing_of;
 use words::easing_words;
 use words::is_known;
 use words::loop_of;
+use words::quick_value_at;
 use words::track_of;
 use words::track_words;
 
@@ -90,6 +93,9 @@ pub extern "C" fn lax_track_looping(w: LaxTrack, mode: LaxLoop) -> LaxTrackChang
 pub extern "C" fn lax_track_value_at(w: LaxTrack, secs: f32) -> LaxValue
     ensures { λ r. ⌜ r ≡ laxTrackValueAt w secs ⌝ }
 {
+    if let Quick::Value(v) = quick_value_at(w, secs) {
+        return value_words(Eased::Value(v));
+    }
     if is_known(w) {
         return value_words(track_of(w).value_at(Seconds(secs)));
     }

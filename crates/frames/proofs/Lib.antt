@@ -8,6 +8,7 @@ mod Places
 pub mod Pushed
 pub mod Rising
 pub mod Samples
+pub mod Scans
 mod Shifts
 pub mod Tops
 pub mod Walks

@@ -72,14 +72,18 @@ module _ (fs : List Keyframe) (n : ℕ) (some : 1 ≤ n) (fit : n ≤ length fs)
   last-at : lastOf (take n fs) ≡ getD fs (n - 1) noFrame
   last-at = rw long (at (n - 1) (omega arith))
 
-  module _ (t : Float) (real : isNan t ≡ false) (starts : List Float) (front : take n starts ≡ timesOf (take n fs)) where
-    -- where t lies between the first and the last time, one frame more is passed than is counted
-    found : le t (getD fs 0 noFrame .time) ≡ false → le (getD fs (n - 1) noFrame .time) t ≡ false → passedOf t (take n fs) ≡ counted starts t (n - 1) + 1
-    found a z =
-        let low : T (lt (getD fs 0 noFrame .time) t) = lt-of-not-le t (getD fs 0 noFrame .time) real (number 0 some) a in
-        let start : le (getD fs 0 noFrame .time) t ≡ true = is-true (le (getD fs 0 noFrame .time) t) (lt-le (getD fs 0 noFrame .time) t low) in
-        let m : 1 < length (take n fs) = rw long (apart n some z start) in
-        let e = counted-passed t beforeAll (take n fs) fine m (rw (at 0 some) start) (rw last-at z) in
+  module _ (t : Float) (real : isNan t ≡ false) where
+    pub started : le t (getD fs 0 noFrame .time) ≡ false → le (getD fs 0 noFrame .time) t ≡ true
+    started a = is-true (le (getD fs 0 noFrame .time) t) (lt-le (getD fs 0 noFrame .time) t (lt-of-not-le t (getD fs 0 noFrame .time) real (number 0 some) a))
+
+    -- where t lies between the first and the last time, one frame more is passed than i
+    abbrev pub Place : ℕ → Type 0
+    Place i = le t (getD fs 0 noFrame .time) ≡ false → le (getD fs (n - 1) noFrame .time) t ≡ false → passedOf t (take n fs) ≡ i + 1
+
+    counted-place : (starts : List Float) → take n starts ≡ timesOf (take n fs) → Place (counted starts t (n - 1))
+    counted-place starts front a z =
+        let m : 1 < length (take n fs) = rw long (apart n some z (started a)) in
+        let e = counted-passed t beforeAll (take n fs) fine m (rw (at 0 some) (started a)) (rw last-at z) in
         rw (counted-front t starts (timesOf (take n fs)) n front) (rw long at e)
       where
         apart : (n : ℕ) → 1 ≤ n → le (getD fs (n - 1) noFrame .time) t ≡ false → le (getD fs 0 noFrame .time) t ≡ true → 1 < n
@@ -94,14 +98,14 @@ module _ (fs : List Keyframe) (n : ℕ) (some : 1 ≤ n) (fit : n ≤ length fs)
         let d : i + 1 - 1 ≡ i = omega arith in
         (rw (e, d) (sym (at i (omega (arith, h)))), rw e (sym (at (i + 1) h)))
 
-    pub at-time : pickOf (getD fs 0 noFrame) (getD fs (n - 1) noFrame) (getD fs (counted starts t (n - 1)) noFrame) (getD fs (counted starts t (n - 1) + 1) noFrame) t ≡ atOf (take n fs) t
-    at-time =
-        pick-same (getD fs 0 noFrame) (getD fs (n - 1) noFrame) _ _ (getD (take n fs) (passedOf t (take n fs) - 1) noFrame) (getD (take n fs) (passedOf t (take n fs)) noFrame) t (λ a z. same (counted starts t (n - 1)) z (found a z))
+    pub at-time : (i : ℕ) → Place i → pickOf (getD fs 0 noFrame) (getD fs (n - 1) noFrame) (getD fs i noFrame) (getD fs (i + 1) noFrame) t ≡ atOf (take n fs) t
+    at-time i p =
+        pick-same (getD fs 0 noFrame) (getD fs (n - 1) noFrame) _ _ (getD (take n fs) (passedOf t (take n fs) - 1) noFrame) (getD (take n fs) (passedOf t (take n fs)) noFrame) t (λ a z. same i z (p a z))
         ∙ rw (at 0 some, last-at)
 
   -- what `pick` answers at the time that is sampled is the sample
-  module _ (secs t : Float) (cut : t ≡ cutOf (maxZeroOf secs) (getD fs (n - 1) noFrame .time)) (starts : List Float) (front : take n starts ≡ timesOf (take n fs)) where
-    real : isNan t ≡ false
+  module _ (secs t : Float) (cut : t ≡ cutOf (maxZeroOf secs) (getD fs (n - 1) noFrame .time)) where
+    pub real : isNan t ≡ false
     real = rw cut (le-numbers (cutOf (maxZeroOf secs) (getD fs (n - 1) noFrame .time)) (getD fs (n - 1) noFrame .time) (cut-most (maxZeroOf secs) (getD fs (n - 1) noFrame .time) (number (n - 1) (omega arith))) .0)
 
     single : n ≡ 1 → le t (getD fs 0 noFrame .time) ≡ true
@@ -110,15 +114,17 @@ module _ (fs : List Keyframe) (n : ℕ) (some : 1 ≤ n) (fit : n ≤ length fs)
         let d : n - 1 ≡ 0 = omega arith in
         is-true (le t (getD fs 0 noFrame .time)) (rw d at m)
 
-    pub picked : pickOf (getD fs 0 noFrame) (getD fs (n - 1) noFrame) (getD fs (counted starts t (n - 1)) noFrame) (getD fs (counted starts t (n - 1) + 1) noFrame) t ≡ sampleOf (take n fs) secs
+    pub picked : (i : ℕ) → Place t real i → pickOf (getD fs 0 noFrame) (getD fs (n - 1) noFrame) (getD fs i noFrame) (getD fs (i + 1) noFrame) t ≡ sampleOf (take n fs) secs
     unfolding sampleOf
-    picked =
-        by-test (λ (v : Float). pickOf (getD fs 0 noFrame) (getD fs (n - 1) noFrame) (getD fs (counted starts t (n - 1)) noFrame) (getD fs (counted starts t (n - 1) + 1) noFrame) t ≡ v) (eqb (length (take n fs)) 1) _ _
+    picked i p =
+        by-test (λ (v : Float). pickOf (getD fs 0 noFrame) (getD fs (n - 1) noFrame) (getD fs i noFrame) (getD fs (i + 1) noFrame) t ≡ v) (eqb (length (take n fs)) 1) _ _
         (λ e. let o : n ≡ 1 = sym long ∙ eqb-true (length (take n fs)) 1 e in rw (single o, at 0 some))
-        (λ e. at-time t real starts front ∙ ap (atOf (take n fs)) (cut ∙ rw last-at))
+        (λ e. at-time t real i p ∙ ap (atOf (take n fs)) (cut ∙ rw last-at))
 
   -- the same, of what the calls on the way answer
   pub picked-by : (secs x t v : Float) (starts : List Float) (low : ℕ) → x ≡ maxZeroOf secs → t ≡ cutOf x (getD fs (n - 1) noFrame .time) → take n starts ≡ timesOf (take n fs) → low ≡ counted starts t (n - 1)
       → v ≡ pickOf (getD fs 0 noFrame) (getD fs (n - 1) noFrame) (getD fs low noFrame) (getD fs (low + 1) noFrame) t
       → v ≡ sampleOf (take n fs) secs
-  picked-by secs x t v starts low ex et es el ev = ev ∙ (rw el (picked secs t (rw ex at et) starts es))
+  picked-by secs x t v starts low ex et es el ev =
+      let c : t ≡ cutOf (maxZeroOf secs) (getD fs (n - 1) noFrame .time) = rw ex at et in
+      ev ∙ (rw el (picked secs t c (counted starts t (n - 1)) (counted-place t (real secs t c) starts es)))

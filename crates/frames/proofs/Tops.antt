@@ -1,5 +1,5 @@
 -- Floats from 0 to 16,777,216: the times of frames, and what stays among them. Assumes nothing.
-use mathlib.Core.Path.{_≡_, subst⁻¹}
+use mathlib.Core.Path.{_≡_, refl, subst⁻¹}
 use mathlib.Core.Bool.{true, false}
 use Prim.Native.Nat.{ℕ, _*_, _≤_}
 use native.Mathlib.Omega.{arith}
@@ -9,7 +9,7 @@ use lib.Ieee.Bits.{is-true}
 use Rattle.math.specs.Rounded.{_⊗_, zeroF, topF}
 use Rattle.math.specs.Range.{finiteOf, betweenOf, Within, AtMost}
 use Rattle.math.proofs.Choice.{and-both}
-use Rattle.math.proofs.Order.{le-sizes}
+use Rattle.math.proofs.Order.{le-sizes, le-lt-chain}
 use Rattle.math.proofs.Upward.{Up, mul-up}
 use Rattle.math.proofs.Sizes.{up-to, at-most-finite}
 use Rattle.math.proofs.Bounded.{shrunk, top-is}
@@ -52,6 +52,19 @@ plus-up (fin false m e) p h = subst⁻¹ T (le-sizes false false (0 * 1 * down e
 pub time-clock : (x : Float) → timeOf x ≡ true → Clock x
 unfolding timeOf
 time-clock x h = (plus-up x (and-both (plusOf x) (le x topF) h .0) (time-top x h), time-top x h)
+
+-- a time after one from 0 on
+plus-above : (t : Float) → T (lt zeroF t) → plusOf t ≡ true
+unfolding lt ofBits
+plus-above nan h = absurd h
+plus-above (inf true) h = absurd h
+plus-above (inf false) h = refl
+plus-above (fin true m e) h = absurd h
+plus-above (fin false m e) h = refl
+
+pub later-time : (p t : Float) → Up p → T (lt p t) → T (le t topF) → timeOf t ≡ true
+unfolding timeOf
+later-time p t u h m = rw (plus-above t (le-lt-chain zeroF p t u h), is-true (le t topF) m)
 
 -- a part of it
 pub shrunk-clock : (x p : Float) → Clock x → Within p → Clock (x ⊗ p)

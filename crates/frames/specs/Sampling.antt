@@ -45,9 +45,13 @@ valueIn (Refused r) = zeroF
 abbrev pub easedOf : Easing → Float → Float
 easedOf e p = valueIn (applyOf e p)
 
--- "local progress (t - time_i) / span clamped, span at least 2^-23, eased by frame i, blended"
+-- "local progress (t - time_i) / span clamped, span at least 2^-23"
+abbrev pub alongOf : Float → Float → Float → Float
+alongOf from to t = clamp01Of ((t ⊖ from) ⊘ spanOf (to ⊖ from))
+
+-- ".. eased by frame i, blended"
 unfoldable pub betweenOf : Keyframe → Keyframe → Float → Float
-betweenOf k l t = blendOf (k .value) (l .value) (easedOf (k .easing) (clamp01Of ((t ⊖ k .time) ⊘ spanOf (l .time ⊖ k .time))))
+betweenOf k l t = blendOf (k .value) (l .value) (easedOf (k .easing) (alongOf (k .time) (l .time) t))
 
 -- how many frames from the front pass a test
 unfoldable pub leading : (Keyframe → Bool) → List Keyframe → ℕ

@@ -13,5 +13,7 @@ pub use frame::Keyframe;
 pub use frame::Put;
 pub use limits::is_time;
 pub use pushing::put;
+pub use sampling::along;
 pub use sampling::cut;
+pub use sampling::eased;
 pub use sampling::span_of;

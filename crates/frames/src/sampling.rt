@@ -1,6 +1,6 @@
 // The value at a time, from the frames beside it.
 ghost use mathlib.Core.Path.{_≡_};
-ghost use Rattle.frames.specs.Sampling.{cutOf, spanOf, easedOf, betweenOf, pickOf};
+ghost use Rattle.frames.specs.Sampling.{cutOf, spanOf, alongOf, easedOf, betweenOf, pickOf};
 use crate::frame::Keyframe;
 use easing::Eased;
 use easing::Easing;
@@ -24,7 +24,7 @@ pub fn span_of(d: f32) -> f32
 }
 
 // 0 where the easing refuses, which no easing of a frame within limits does.
-fn eased(e: Easing, p: f32) -> f32
+pub fn eased(e: Easing, p: f32) -> f32
     ensures { λ r. ⌜ r ≡ easedOf e p ⌝ }
 {
     match e.apply(Progress(p)) {
@@ -33,11 +33,17 @@ fn eased(e: Easing, p: f32) -> f32
     }
 }
 
+// How far t is from one time to the next: 0 to 1.
+pub fn along(from: f32, to: f32, t: f32) -> f32
+    ensures { λ r. ⌜ r ≡ alongOf from to t ⌝ }
+{
+    math::clamp01((t - from) / span_of(to - from))
+}
+
 fn between(k: Keyframe, l: Keyframe, t: f32) -> f32
     ensures { λ r. ⌜ r ≡ betweenOf k l t ⌝ }
 {
-    let span = span_of(l.time - k.time);
-    let p = math::clamp01((t - k.time) / span);
+    let p = along(k.time, l.time, t);
     let e = k.easing;
     math::blend(k.value, l.value, eased(e, p))
 }

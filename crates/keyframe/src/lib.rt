@@ -8,6 +8,7 @@ mod sampling;
 mod steps;
 mod types;
 
+pub use limits::clock_fits;
 pub use types::Changed;
 pub use types::Completion;
 pub use types::End;

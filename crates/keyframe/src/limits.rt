@@ -36,7 +36,7 @@ pub fn mode_fits(looping: Loop, base: f32) -> bool
     }
 }
 
-fn clock_fits(elapsed: f32, looping: Loop, base: f32) -> bool
+pub fn clock_fits(elapsed: f32, looping: Loop, base: f32) -> bool
     ensures { λ r. ⌜ r ≡ clockFits elapsed looping base ⌝ }
 {
     math::is_between(elapsed, 0.0, 16777216.0) & mode_fits(looping, base)

@@ -1,29 +1,36 @@
--- The kinds of a track's words, from place i on. Assumes nothing.
+-- The places of a track's words, and their kinds from place i on. Assumes nothing.
 use Prim.Native.Nat.{ℕ, _+_, _<_, _≤_}
-use mathlib.Core.Path.{_≡_, sym, _∙_}
-use mathlib.Core.Bool.{true, _&&_}
+use native.Mathlib.Omega.{arith}
+use borrow.Author.Tests.{eqb-false, ltb-false}
+use mathlib.Core.Path.{_≡_, refl, sym, _∙_}
+use mathlib.Core.Bool.{Bool, true, false, _&&_, _||_, false≢true}
 use mathlib.Core.List.{List}
-use lib.Dec.{ltb}
+use lib.Dec.{eqb, ltb}
 use lib.ListN.{length, length-map, take, drop, getD}
 use lib.Ieee.{nan}
 use mir.Val.{Val}
 use denote.Laws.{Is}
 use denote.Struct.Declared.{row}
 use denote.Struct.Laws.{owed}
+use Rattle.math.proofs.Choice.{by-test}
 use Rattle.frames.proofs.Walks.{front, back}
 use Rattle.words.specs.declared.tracks.LaxKeyframe.{LaxKeyframe}
 use Rattle.words.specs.declared.tracks.LaxTrack.{LaxTrack}
 use Rattle.words.proofs.tracks.LaxTrack.{the-type}
 use Rattle.words.proofs.tracks.LaxTrack.Laws.{the-laws}
 use Rattle.words.specs.Kinds.{words}
-use Rattle.words.specs.Tracks.{knownKinds}
+use Rattle.words.specs.Tracks.{placesIn, knownKinds}
+
+-- at most 64 places are all looked at
+pub all-places : (n : ℕ) → n ≤ 64 → placesIn n ≡ n
+all-places n h = by-test (λ (m : ℕ). m ≡ n) (ltb n 64) n 64 (λ _. refl) (λ e. omega (arith, h, ltb-false n 64 e))
 
 -- the array has 64 places
 pub words-long : (w : LaxTrack) (vs : List Val) → Is (row the-type) w vs → length (w .frames) ≡ 64
 words-long w vs h = sym (length-map (w .frames) _) ∙ owed the-type the-laws w vs h .0 .1 .0 .1
 
 -- what stands past the end of a list, for `getD`
-abbrev noWords : LaxKeyframe
+abbrev pub noWords : LaxKeyframe
 noWords = record { time = nan; value = nan; easing = words 0 nan nan nan nan 0 }
 
 module _ (ws : List LaxKeyframe) (n : ℕ) (fit : n ≤ length ws) where
@@ -34,3 +41,13 @@ module _ (ws : List LaxKeyframe) (n : ℕ) (fit : n ≤ length ws) where
   pub known-end : knownKinds (drop n (take n ws)) ≡ true
   unfolding knownKinds
   known-end = rw (back ws n fit)
+
+-- a count that passes the first test
+pub few-places : (n : ℕ) → eqb n 0 || ltb 64 n ≡ false → (1 ≤ n) × (n ≤ 64)
+few-places n h =
+    let p = neither (eqb n 0) (ltb 64 n) h in
+    (omega (arith, eqb-false n 0 (p .0)), ltb-false 64 n (p .1))
+  where
+    neither : (a b : Bool) → a || b ≡ false → (a ≡ false) × (b ≡ false)
+    neither true b e = absurd (false≢true (sym e))
+    neither false b e = (refl, e)

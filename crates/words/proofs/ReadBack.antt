@@ -1,14 +1,12 @@
 -- What was written as words is read back as it was. Assumes nothing.
-use Prim.Native.Nat.{ℕ, _≤_}
+use Prim.Native.Nat.{_≤_}
 use native.Mathlib.Omega.{arith}
-use borrow.Author.Tests.{ltb-false}
 use mathlib.Core.Path.{_≡_, refl, ap, _∙_}
 use mathlib.Core.Bool.{Bool, true, false, not, cond}
 use mathlib.Core.List.{List, [], _∷_, _++_, map}
 use lib.Dec.{eqb, ltb}
 use lib.ListN.{length, length-map, take, drop}
 use lib.Seq.{length-take-le, take-at}
-use Rattle.math.proofs.Choice.{by-test}
 use Rattle.easing.specs.declared.kinds.Easing.{Easing}
 use Rattle.easing.specs.declared.kinds.Easing.the-variants.{Linear, EaseInQuad, EaseOutQuad, EaseInOutQuad, EaseInCubic, EaseOutCubic, EaseInOutCubic, EaseInQuart, EaseOutQuart, EaseInOutQuart, EaseInQuint, EaseOutQuint, EaseInOutQuint, EaseInSine, EaseOutSine, EaseInOutSine, EaseInExpo, EaseOutExpo, EaseInOutExpo, EaseInCirc, EaseOutCirc, EaseInOutCirc, EaseInBack, EaseOutBack, EaseInOutBack, EaseInElastic, EaseOutElastic, EaseInOutElastic, EaseInBounce, EaseOutBounce, EaseInOutBounce, CubicBezier, Steps, RoughEase, SlowMo, Wiggle, CustomBounce, ExpoScale}
 use Rattle.loop_mode.specs.declared.Loop.{Loop}
@@ -28,6 +26,7 @@ use Rattle.words.specs.Kinds.{withParameters, easingFrom, easingWords}
 use Rattle.words.specs.Modes.{loopFrom, loopWords, stateFrom, stateWord, flagWord}
 use Rattle.words.specs.Tracks.{placesIn, blanks, knownKinds, knownTrack, frameFrom, framesFrom, trackFrom, frameWords, framesWords, trackWords}
 use Rattle.words.specs.Tweens.{tweenFrom, tweenWords}
+use Rattle.words.proofs.Known.{all-places}
 
 pub easing-back : (e : Easing) → easingFrom (easingWords e) ≡ kind.Known e
 unfolding easingFrom easingWords withParameters
@@ -140,9 +139,6 @@ cleared t =
     }
 
 module _ (came : List LaxKeyframe) (t : Track) (long : length (t .frames) ≡ 64) (fit : t .count ≤ 64) where
-  all-places : (n : ℕ) → n ≤ 64 → placesIn n ≡ n
-  all-places n h = by-test (λ (m : ℕ). m ≡ n) (ltb n 64) n 64 (λ _. refl) (λ e. omega (arith, h, ltb-false n 64 e))
-
   -- the frames among the words
   written : take (t .count) (framesWords came (t .frames) (t .count)) ≡ map frameWords (take (t .count) (t .frames))
   unfolding framesWords

@@ -2,3 +2,4 @@ pub mod Kinds
 pub mod Modes
 pub mod Tweens
 pub mod Tracks
+pub mod Sampling

@@ -1,6 +1,7 @@
 // Records as words of 32 bits, for the C interface. Reading answers Unknown where a word is no kind, no mode or no state.
 mod kinds;
 mod modes;
+mod sampling;
 mod tracks;
 mod tweens;
 
@@ -14,6 +15,8 @@ pub use modes::flag_word;
 pub use modes::loop_of;
 pub use modes::loop_words;
 pub use modes::state_word;
+pub use sampling::Quick;
+pub use sampling::quick_value_at;
 pub use tracks::LaxKeyframe;
 pub use tracks::LaxTrack;
 pub use tracks::is_known;

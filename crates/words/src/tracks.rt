@@ -95,7 +95,7 @@ fn frames_of(words: [LaxKeyframe; 64], count: usize) -> [Keyframe; 64]
     frames
 }
 
-fn mode_of(w: LaxLoop) -> Loop
+pub fn mode_of(w: LaxLoop) -> Loop
     ensures { λ r. ⌜ r ≡ loopIn (loopFrom w) ⌝ }
 {
     match loop_of(w) {

@@ -12,5 +12,4 @@ between-spec =
     (λ c κs. search needs)
     (λ c κs. search needs)
     (λ c κs. search needs)
-    (λ c κs. search needs)
-    (λ c. simp (c .blend .ensures, c .before .eased .ensures, c .before .before .clamp01 .ensures, c .before .before .before .before .span-of .ensures)))
+    (λ c. simp (c .blend .ensures, c .before .eased .ensures, c .before .before .along .ensures)))
