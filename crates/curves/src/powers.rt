@@ -1,5 +1,8 @@
 // The curves of the second to the fifth power.
 ghost use mathlib.Core.Path.{_≡_};
+ghost use mathlib.Core.Bool.{cond};
+ghost use lib.Ieee.{lt};
+ghost use Rattle.math.specs.Rounded.{halfF};
 ghost use Rattle.curves.specs.Powers.{quad, cubic, quart, quint, powi, inPower, outPower, inOutPower};
 
 // powi(x, 2)
@@ -32,6 +35,13 @@ fn fifth(x: f32) -> f32
     s * s * x
 }
 
+// Both arms are worked out before the test: a branch would be guessed wrong at every other random t.
+fn by_half(t: f32, below: f32, above: f32) -> f32
+    ensures { λ r. ⌜ r ≡ cond (lt t halfF) below above ⌝ }
+{
+    if t < 0.5 { below } else { above }
+}
+
 pub fn ease_in_quad(t: f32) -> f32
     ensures { λ r. ⌜ r ≡ inPower quad t ⌝ }
 {
@@ -47,11 +57,7 @@ pub fn ease_out_quad(t: f32) -> f32
 pub fn ease_in_out_quad(t: f32) -> f32
     ensures { λ r. ⌜ r ≡ inOutPower quad t ⌝ }
 {
-    if t < 0.5 {
-        2.0 * t * t
-    } else {
-        1.0 - square(-2.0 * t + 2.0) / 2.0
-    }
+    by_half(t, 2.0 * t * t, 1.0 - square(-2.0 * t + 2.0) / 2.0)
 }
 
 pub fn ease_in_cubic(t: f32) -> f32
@@ -69,11 +75,7 @@ pub fn ease_out_cubic(t: f32) -> f32
 pub fn ease_in_out_cubic(t: f32) -> f32
     ensures { λ r. ⌜ r ≡ inOutPower cubic t ⌝ }
 {
-    if t < 0.5 {
-        4.0 * t * t * t
-    } else {
-        1.0 - cube(-2.0 * t + 2.0) / 2.0
-    }
+    by_half(t, 4.0 * t * t * t, 1.0 - cube(-2.0 * t + 2.0) / 2.0)
 }
 
 pub fn ease_in_quart(t: f32) -> f32
@@ -91,11 +93,7 @@ pub fn ease_out_quart(t: f32) -> f32
 pub fn ease_in_out_quart(t: f32) -> f32
     ensures { λ r. ⌜ r ≡ inOutPower quart t ⌝ }
 {
-    if t < 0.5 {
-        8.0 * t * t * t * t
-    } else {
-        1.0 - fourth(-2.0 * t + 2.0) / 2.0
-    }
+    by_half(t, 8.0 * t * t * t * t, 1.0 - fourth(-2.0 * t + 2.0) / 2.0)
 }
 
 pub fn ease_in_quint(t: f32) -> f32
@@ -113,9 +111,9 @@ pub fn ease_out_quint(t: f32) -> f32
 pub fn ease_in_out_quint(t: f32) -> f32
     ensures { λ r. ⌜ r ≡ inOutPower quint t ⌝ }
 {
-    if t < 0.5 {
-        16.0 * t * t * t * t * t
-    } else {
-        1.0 - fifth(-2.0 * t + 2.0) / 2.0
-    }
+    by_half(
+        t,
+        16.0 * t * t * t * t * t,
+        1.0 - fifth(-2.0 * t + 2.0) / 2.0,
+    )
 }

@@ -1,4 +1,5 @@
--- `ease_in_out_quad` meets its contract: each return is what the definition picks at the tests that led there. Assumes nothing.
+-- `ease_in_out_quad` meets its contract, by what `square` and `by_half` ensure. Assumes nothing.
+use mathlib.Core.Path.{_∙_}
 use borrow.Author.Needs.{needs}
 use Rattle.curves.proofs.powers.ease_in_out_quad.Statement.{statement}
 use Rattle.curves.proofs.powers.ease_in_out_quad.Tie as tie
@@ -8,5 +9,5 @@ ease-in-out-quad-spec =
     tie.close
     (tie.spec
     (λ c κs. search needs)
-    (λ c. simp (c .if1 .taken))
-    (λ c. simp (c .before .if1 .left, c .square .ensures)))
+    (λ c κs. search needs)
+    (λ c. c .by-half .ensures ∙ rw (c .before .square .ensures)))
