@@ -1,4 +1,8 @@
-.PHONY: test lib
+.PHONY: run test lib compare exhaustive power bench
+
+# The worked examples, and a ramp sampled to a table.
+run:
+	@bash scripts/run
 
 # Prove and test everything, from nothing.
 test:
@@ -7,3 +11,19 @@ test:
 # The C interface as an archive.
 lib:
 	@bash scripts/lib
+
+# Random inputs against the Rust, some minutes.
+compare: lib
+	@compare/run random
+
+# Every f32 from 0 to 1 for each easing, against the Rust. It goes on where it was stopped.
+exhaustive: lib
+	@compare/run exhaustive
+
+# Wrong answers that the short run has to notice.
+power: lib
+	@compare/run power
+
+# Times beside the Rust's.
+bench: lib
+	@compare/run bench

@@ -1,11 +1,11 @@
 -- A list whose front is filled, place by place, from another list. Assumes nothing.
 use Prim.Native.Nat.{ℕ, suc, _+_, _<_, _≤_}
 use mathlib.Core.Path.{_≡_, refl, ap, _∙_}
-use mathlib.Core.List.{List, [], _∷_, _++_, map, append-assoc, append-nil}
+use mathlib.Core.List.{List, [], _∷_, _++_, map, append-assoc}
 use native.Mathlib.Numerals.{add-one}
 use native.Mathlib.Omega.{arith}
 use lib.ListN.{length, take, drop, getD, set, length-map}
-use lib.Seq.{drop-cons, length-take-le, take-suc, take-length, drop-length, set-at}
+use lib.Seq.{drop-cons, length-take-le, take-suc, take-length, take-at, set-at}
 
 map-snoc : {A B : Type 0} (f : A → B) (l : List A) (x : A) → map f (l ++ (x ∷ [])) ≡ map f l ++ (f x ∷ [])
 map-snoc f [] x = refl
@@ -34,6 +34,6 @@ module _ {A B : Type 0} (f : A → B) (d : A) (from : List A) (out : List B) (ro
   unfolding fillTo
   fill-all = rw take-length
 
-  -- where there is no place behind
-  pub fill-whole : length out ≡ length from → fillTo f from out (length from) ≡ map f from
-  fill-whole e = fill-all ∙ (rw (← e, drop-length) (append-nil (map f from)))
+  pub fill-front : (i : ℕ) → i ≤ length from → take i (fillTo f from out i) ≡ map f (take i from)
+  unfolding fillTo
+  fill-front i h = take-at (map f (take i from)) (drop i out) i (front-length i h)

@@ -1,7 +1,7 @@
 pub mod Answering
 mod Blends
 pub mod Fills
-pub mod Halves
+pub mod Counts
 pub mod Owned
 pub mod Picks
 mod Places

@@ -1,4 +1,4 @@
--- What `pick` is given and answers: on ascending times halving finds the interval of the definition, so that the value is the sample. Assumes nothing.
+-- What `pick` is given and answers: on ascending times counting finds the interval of the definition, so that the value is the sample. Assumes nothing.
 use Prim.Native.Nat.{ℕ, zero, suc, _+_, _-_, _<_, _≤_}
 use mathlib.Core.Path.{_≡_, refl, sym, ap, _∙_}
 use mathlib.Core.Bool.{Bool, true, false, cond, false≢true}
@@ -7,9 +7,9 @@ use mathlib.Core.Logic.{_⊎_, ⊎-elim}
 use native.Mathlib.Nat.{eq-or-lt-of-le}
 use native.Mathlib.Omega.{arith}
 use lib.Dec.{T, eqb}
-use lib.ListN.{length, take, getD, List·getD-map}
+use lib.ListN.{length, take, getD}
 use lib.Seq.{getD-take, length-take-le}
-use lib.Ieee.{Float, nan, lt, le, isNan}
+use lib.Ieee.{Float, lt, le, isNan}
 use lib.Ieee.Bits.{is-true}
 use borrow.Author.Tests.{eqb-true}
 use Rattle.math.specs.Rounded.{zeroF}
@@ -19,14 +19,11 @@ use Rattle.math.proofs.Order.{le-numbers, le-self, lt-le, le-chain, lt-of-not-l
 use Rattle.math.proofs.Upward.{max-zero-up}
 use Rattle.frames.specs.declared.frame.Keyframe.{Keyframe}
 use Rattle.frames.specs.Limits.{framesOf, beforeAll, noFrame}
-use Rattle.frames.specs.Halving.{halved}
+use Rattle.frames.specs.Counting.{counted}
 use Rattle.frames.specs.Sampling.{timesOf, passedOf, lastOf, cutOf, betweenOf, pickOf, atOf, sampleOf}
 use Rattle.frames.proofs.Rising.{holds, each-fine, rising, time-fine, time-number}
-use Rattle.frames.proofs.Walks.{lead-is}
-use Rattle.frames.proofs.Halves.{Interval, halved-interval}
-
-pub times-at : (fs : List Keyframe) (i : ℕ) → getD (timesOf fs) i nan ≡ getD fs i noFrame .time
-times-at fs i = List·getD-map (λ (k : Keyframe). k .time) fs i noFrame
+use Rattle.frames.proofs.Walks.{lead-is, lead-below}
+use Rattle.frames.proofs.Counts.{counted-passed, counted-front}
 
 -- the frames of an interval of ascending times are the last at or before t, and the next
 pub passed-interval : (l : List Keyframe) (t : Float) (i : ℕ) → framesOf l ≡ true → i + 1 < length l → le (getD l i noFrame .time) t ≡ true → le (getD l (i + 1) noFrame .time) t ≡ false → passedOf t l ≡ i + 1
@@ -62,7 +59,7 @@ max-zero-number x = le-numbers zeroF (maxZeroOf x) (max-zero-up x) .1
 pub cut-most : (x top : Float) → isNan top ≡ false → T (le (cutOf x top) top)
 cut-most x top n = by-test (λ (z : Float). T (le z top)) (lt x top) x top (λ h. lt-le x top (holds (lt x top) h)) (λ _. le-self top n)
 
-module _ (fs : List Keyframe) (n : ℕ) (some : 1 ≤ n) (fit : n ≤ length fs) (most : n ≤ 64) (fine : framesOf (take n fs) ≡ true) where
+module _ (fs : List Keyframe) (n : ℕ) (some : 1 ≤ n) (fit : n ≤ length fs) (fine : framesOf (take n fs) ≡ true) where
   long : length (take n fs) ≡ n
   long = length-take-le n fs fit
 
@@ -79,34 +76,33 @@ module _ (fs : List Keyframe) (n : ℕ) (some : 1 ≤ n) (fit : n ≤ length fs)
     pub started : le t (getD fs 0 noFrame .time) ≡ false → le (getD fs 0 noFrame .time) t ≡ true
     started a = is-true (le (getD fs 0 noFrame .time) t) (lt-le (getD fs 0 noFrame .time) t (lt-of-not-le t (getD fs 0 noFrame .time) real (number 0 some) a))
 
-    -- the interval, where t lies between the first and the last time
-    found : le t (getD fs 0 noFrame .time) ≡ false → le (getD fs (n - 1) noFrame .time) t ≡ false → Interval (timesOf fs) t (n - 1) (halved (timesOf fs) t (n - 1))
-    found a z =
-        let start = started a in
-        halved-interval (timesOf fs) t (n - 1) (apart n some a z start) (omega arith) (rw (times-at fs 0) start) (rw (times-at fs (n - 1)) z)
-      where
-        apart : (n : ℕ) → 1 ≤ n → le t (getD fs 0 noFrame .time) ≡ false → le (getD fs (n - 1) noFrame .time) t ≡ false → le (getD fs 0 noFrame .time) t ≡ true → 0 < n - 1
-        apart zero s a z b = absurd (omega (arith, s))
-        apart (suc zero) s a z b = absurd (false≢true (sym z ∙ b))
-        apart (suc (suc n)) s a z b = omega arith
-
-    same : (i : ℕ) → Interval (timesOf fs) t (n - 1) i → (getD fs i noFrame ≡ getD (take n fs) (passedOf t (take n fs) - 1) noFrame) × (getD fs (i + 1) noFrame ≡ getD (take n fs) (passedOf t (take n fs)) noFrame)
-    same i g =
-        let h : i + 1 < n = omega (arith, g .inside) in
-        let j : i < n = omega (arith, g .inside) in
-        let a : le (getD (take n fs) i noFrame .time) t ≡ true = rw (at i j) (rw (times-at fs i) at (g .at)) in
-        let z : le (getD (take n fs) (i + 1) noFrame .time) t ≡ false = rw (at (i + 1) h) (rw (times-at fs (i + 1)) at (g .past)) in
-        let e : passedOf t (take n fs) ≡ i + 1 = passed-interval (take n fs) t i fine (omega (arith, long)) a z in
-        let d : i + 1 - 1 ≡ i = omega arith in
-        (rw (e, d) (sym (at i j)), rw e (sym (at (i + 1) h)))
-
-    -- a place of which it is known, where t lies between the first and the last time, that it is the interval
+    -- where t lies between the first and the last time, one frame more is passed than i
     abbrev pub Place : ℕ → Type 0
-    Place i = le t (getD fs 0 noFrame .time) ≡ false → le (getD fs (n - 1) noFrame .time) t ≡ false → Interval (timesOf fs) t (n - 1) i
+    Place i = le t (getD fs 0 noFrame .time) ≡ false → le (getD fs (n - 1) noFrame .time) t ≡ false → passedOf t (take n fs) ≡ i + 1
+
+    -- so it is with what is counted
+    found : (starts : List Float) → take n starts ≡ timesOf (take n fs) → Place (counted starts t (n - 1))
+    found starts front a z =
+        let start = started a in
+        let m : 1 < length (take n fs) = rw long (apart n some z start) in
+        let e = counted-passed t beforeAll (take n fs) fine m (rw (at 0 some) start) (rw last-at z) in
+        rw (counted-front t starts (timesOf (take n fs)) n front) (rw long at e)
+      where
+        apart : (n : ℕ) → 1 ≤ n → le (getD fs (n - 1) noFrame .time) t ≡ false → le (getD fs 0 noFrame .time) t ≡ true → 1 < n
+        apart zero s z b = absurd (omega (arith, s))
+        apart (suc zero) s z b = absurd (false≢true (sym z ∙ b))
+        apart (suc (suc n)) s z b = omega arith
+
+    same : (i : ℕ) → le (getD fs (n - 1) noFrame .time) t ≡ false → passedOf t (take n fs) ≡ i + 1 → (getD fs i noFrame ≡ getD (take n fs) (passedOf t (take n fs) - 1) noFrame) × (getD fs (i + 1) noFrame ≡ getD (take n fs) (passedOf t (take n fs)) noFrame)
+    same i z e =
+        let m : passedOf t (take n fs) ≤ n - 1 = lead-below (λ (k : Keyframe). le (k .time) t) (take n fs) (n - 1) (omega (arith, long)) (rw (at (n - 1) (omega arith)) z) in
+        let h : i + 1 < n = omega (arith, m, e) in
+        let d : i + 1 - 1 ≡ i = omega arith in
+        (rw (e, d) (sym (at i (omega (arith, h)))), rw e (sym (at (i + 1) h)))
 
     pub at-time : (i : ℕ) → Place i → pickOf (getD fs 0 noFrame) (getD fs (n - 1) noFrame) (getD fs i noFrame) (getD fs (i + 1) noFrame) t ≡ atOf (take n fs) t
     at-time i p =
-        pick-same (getD fs 0 noFrame) (getD fs (n - 1) noFrame) _ _ (getD (take n fs) (passedOf t (take n fs) - 1) noFrame) (getD (take n fs) (passedOf t (take n fs)) noFrame) t (λ a z. same i (p a z))
+        pick-same (getD fs 0 noFrame) (getD fs (n - 1) noFrame) _ _ (getD (take n fs) (passedOf t (take n fs) - 1) noFrame) (getD (take n fs) (passedOf t (take n fs)) noFrame) t (λ a z. same i z (p a z))
         ∙ rw (at 0 some, last-at)
 
   -- what `pick` answers at the time that is sampled is the sample
@@ -128,9 +124,9 @@ module _ (fs : List Keyframe) (n : ℕ) (some : 1 ≤ n) (fit : n ≤ length fs)
         (λ e. at-time t real i p ∙ ap (atOf (take n fs)) (cut ∙ rw last-at))
 
   -- the same, of what the calls on the way answer
-  pub picked-by : (secs x t v : Float) (starts : List Float) (low : ℕ) → x ≡ maxZeroOf secs → t ≡ cutOf x (getD fs (n - 1) noFrame .time) → starts ≡ timesOf fs → low ≡ halved starts t (n - 1)
+  pub picked-by : (secs x t v : Float) (starts : List Float) (low : ℕ) → x ≡ maxZeroOf secs → t ≡ cutOf x (getD fs (n - 1) noFrame .time) → take n starts ≡ timesOf (take n fs) → low ≡ counted starts t (n - 1)
       → v ≡ pickOf (getD fs 0 noFrame) (getD fs (n - 1) noFrame) (getD fs low noFrame) (getD fs (low + 1) noFrame) t
       → v ≡ sampleOf (take n fs) secs
   picked-by secs x t v starts low ex et es el ev =
       let c : t ≡ cutOf (maxZeroOf secs) (getD fs (n - 1) noFrame .time) = rw ex at et in
-      ev ∙ (rw (el, es) (picked secs t c (halved (timesOf fs) t (n - 1)) (found t (real secs t c))))
+      ev ∙ (rw el (picked secs t c (counted starts t (n - 1)) (found t (real secs t c) starts es)))

@@ -1,4 +1,4 @@
 pub mod Limits
 pub mod Sampling
-pub mod Halving
+pub mod Counting
 pub mod Pushing

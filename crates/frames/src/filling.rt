@@ -10,12 +10,14 @@ use crate::sampling::cut;
 use crate::sampling::pick;
 use crate::search::interval;
 
-fn times_of(frames: [Keyframe; 64]) -> [f32; 64]
-    ensures { λ r. ⌜ r ≡ timesOf frames ⌝ }
+// Only the first n places are filled.
+fn times_of(frames: [Keyframe; 64], n: usize) -> [f32; 64]
+    requires { ⌜ n ≤ 64 ⌝ }
+    ensures { λ r. ⌜ take n r ≡ timesOf (take n frames) ⌝ }
 {
     let mut times = [0.0f32; 64];
     let mut i: usize = 0;
-    while i < 64 {
+    while i < n {
         times[i] = frames[i].time;
         i += 1;
     }
@@ -30,7 +32,7 @@ pub fn fill(frames: [Keyframe; 64], n: usize, times: &[f32], out: &mut [f32])
 {
     let first = frames[0];
     let last = frames[n - 1];
-    let starts = times_of(frames);
+    let starts = times_of(frames, n);
     let mut i: usize = 0;
     while i < times.len() {
         let t = cut(math::max_zero(times[i]), last.time);

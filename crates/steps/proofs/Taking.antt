@@ -3,19 +3,25 @@ use Prim.Native.Nat.{ℕ, _≤_, _<_}
 use mathlib.Core.Path.{_≡_, refl, sym, ap, _∙_, subst, subst⁻¹}
 use mathlib.Core.Bool.{Bool, true, false, _&&_, and-comm}
 use borrow.Author.Tests.{lt-leb}
-use lib.Dec.{le→leb}
+use lib.Dec.{T, le→leb}
 use lib.Ieee.{Float}
 use lib.Ieee.Bits.{is-true}
+use Rattle.refusal.specs.declared.Refusal.{Refusal}
 use Rattle.refusal.specs.declared.Refusal.the-variants.{RecordBreaksLimit}
 use Rattle.easing.specs.declared.answers.Eased.{Eased}
 use Rattle.easing.specs.declared.answers.Eased.the-variants as eased
 use Rattle.tween.specs.declared.record.Tween.{Tween}
 use Rattle.tween.specs.declared.answers.Updated.{Updated}
 use Rattle.tween.specs.declared.answers.Updated.the-variants.{Ran, Refused}
+use Rattle.tween.specs.declared.fold.Folding.{Folding}
+use Rattle.tween.specs.declared.update.Glided.the-variants.{To}
 use Rattle.tween.specs.Limits.{settingsWithin, clockWithin, withinOf}
 use Rattle.tween.specs.Calls.{valueOf}
 use Rattle.tween.specs.Update.{updateOf}
+use Rattle.tween.specs.Gliding.{Glides}
+use Rattle.tween.proofs.Glides.{placed, goes-to}
 use Rattle.tween.proofs.KeptByUpdate.{update-within}
+use Rattle.tween.proofs.Valued.{value-answers}
 use Rattle.steps.specs.declared.take.Taken.{Taken}
 use Rattle.steps.specs.declared.take.Taken.the-variants.{Took, Stops}
 use Rattle.steps.specs.Course.{valued, taken, stepOf}
@@ -64,3 +70,19 @@ step-fine t x = go (updateOf t x)
 
 pub took-within : (t u : Tween) (x v : Float) (k : ℕ) → stepOf t x ≡ Took u v k → withinOf u ≡ true
 took-within t u x v k e = subst Fine e (step-fine t x)
+
+module _ (t : Tween) (x w : Float) (p : Folding) (h : Glides t x (To w p)) where
+  pub glide-within : withinOf (placed t w p) ≡ true
+  glide-within = is-true (withinOf (placed t w p)) (update-within t (placed t w p) x (p .folds) true (goes-to t x w p h) (le→leb (p .«loop_count») 16777216 (h .1 .2)))
+
+  pub glide-took : (v : Float) → valueOf (placed t w p) ≡ eased.Value v → stepOf t x ≡ Took (placed t w p) v (p .folds)
+  unfolding stepOf
+  glide-took v e = rw (goes-to t x w p h, e) refl
+
+-- a tween within its limits has a value
+pub always-value : (t : Tween) → withinOf t ≡ true → (r : Refusal) → valueOf t ≡ eased.Refused r → ⊥
+always-value t h r e = subst IsValue (sym (value-answers t (subst⁻¹ T h tt) .1) ∙ e) tt
+  where
+    IsValue : Eased → Type 0
+    IsValue (eased.Value v) = Unit {0}
+    IsValue (eased.Refused r) = ⊥

@@ -6,9 +6,12 @@ ghost use lib.ListN.{length};
 ghost use Rattle.tween.specs.Limits.{withinOf};
 ghost use Rattle.steps.specs.Course.{courseOf, runOf, answerOf, over};
 use crate::take::Taken;
+use crate::take::sure_value;
 use crate::take::take;
 use refusal::Refusal;
+use tween::Glided;
 use tween::Tween;
+use tween::glide;
 use tween::within;
 
 pub enum Outcome {
@@ -43,18 +46,29 @@ fn run_on(first: Tween, steps: &[f32], values: &mut [f32], folds: &mut [u32]) ->
     let mut t = first;
     let mut i: usize = 0;
     while i < steps.len() {
-        match take(t, steps[i]) {
-            Taken::Took {
-                tween,
-                value,
-                folds: made,
-            } => {
-                values[i] = value;
-                folds[i] = made;
-                t = tween;
+        match glide(t, steps[i]) {
+            Glided::To { waited, now } => {
+                t.elapsed = now.elapsed;
+                t.delay_elapsed = waited;
+                t.loop_count = now.loop_count;
+                t.ping_pong_reverse = now.ping_pong_reverse;
+                values[i] = sure_value(t);
+                folds[i] = now.folds;
                 i += 1;
             }
-            Taken::Stops(refusal) => return stop(t, i, refusal),
+            Glided::Unsure => match take(t, steps[i]) {
+                Taken::Took {
+                    tween,
+                    value,
+                    folds: made,
+                } => {
+                    values[i] = value;
+                    folds[i] = made;
+                    t = tween;
+                    i += 1;
+                }
+                Taken::Stops(refusal) => return stop(t, i, refusal),
+            },
         }
     }
     Run {

@@ -2,6 +2,7 @@
 ghost use mathlib.Core.Path.{_≡_};
 ghost use mathlib.Core.Bool.{true};
 ghost use Rattle.tween.specs.Limits.{withinOf};
+ghost use Rattle.tween.specs.Calls.{valueOf};
 ghost use Rattle.steps.specs.Course.{stepOf};
 use easing::Eased;
 use refusal::Refusal;
@@ -44,5 +45,16 @@ pub fn take(t: Tween, step: f32) -> Taken
             }
         }
         Updated::Refused { tween: _, refusal } => Taken::Stops(refusal),
+    }
+}
+
+// A tween within its limits has a value: the 0 is never answered.
+pub fn sure_value(t: Tween) -> f32
+    requires { ⌜ withinOf t ≡ true ⌝ }
+    ensures { λ r. ⌜ valueOf t ≡ Eased.Value r ⌝ }
+{
+    match value_in(t) {
+        Eased::Value(value) => value,
+        Eased::Refused(_) => 0.0,
     }
 }

@@ -1,5 +1,6 @@
 pub mod Bounds
 pub mod Examples
+pub mod Glides
 pub mod Handed
 pub mod Kept
 pub mod KeptByUpdate

@@ -11,8 +11,8 @@ use Rattle.tween.specs.declared.record.TweenState.the-variants.{Idle, Ru
 use Rattle.tween.specs.declared.answers.Updated.{Updated}
 use Rattle.tween.specs.declared.answers.Updated.the-variants.{Ran, Refused}
 use Rattle.tween.specs.declared.fold.Folding.{Folding}
-use Rattle.tween.specs.declared.update.Begun.{Begun}
-use Rattle.tween.specs.declared.update.Begun.the-variants.{Still, Lost, Waits, Runs}
+use Rattle.tween.specs.declared.step.Begun.{Begun}
+use Rattle.tween.specs.declared.step.Begun.the-variants.{Still, Lost, Waits, Runs}
 use Rattle.tween.specs.Parts.{put}
 use Rattle.tween.specs.Limits.{withinOf}
 use Rattle.tween.specs.Folds.{due, foldsOf}

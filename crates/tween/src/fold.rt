@@ -40,7 +40,7 @@ fn go_on(p: Folding, duration: f32, count: u32, reverse: bool) -> Folding
     }
 }
 
-fn fold_once(looping: Loop, duration: f32, p: Folding) -> Folding
+pub fn fold_once(looping: Loop, duration: f32, p: Folding) -> Folding
     requires { ⌜ (p .«loop_count» < 4294967295) × (p .folds < 4294967295) ⌝ }
     ensures { λ r. ⌜ r ≡ foldOnce looping duration p ⌝ }
 {

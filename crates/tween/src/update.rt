@@ -1,176 +1,77 @@
-// A step in time.
+// `update`. The common step has a way of its own: of a tween that runs and goes on running, with one
+// fold at most.
 ghost use mathlib.Core.Path.{_≡_};
 ghost use mathlib.Core.Bool.{true};
 ghost use Prim.Native.Nat.{_≤_};
-ghost use Rattle.math.specs.Rounded.{_⊕_, _⊗_};
 ghost use Rattle.tween.specs.Limits.{withinOf};
-ghost use Rattle.tween.specs.Update.{afterFolds, ran, advanced, waitOf, runOf, byState, finishOf, updateOf};
+ghost use Rattle.tween.specs.Update.{updateOf};
+ghost use Rattle.tween.specs.Gliding.{Slides, Glides};
 use crate::answers::Updated;
 use crate::fold::Folding;
-use crate::fold::fold_all;
+use crate::fold::fold_once;
 use crate::fold::is_due;
 use crate::limits::within;
 use crate::record::Tween;
-use crate::record::TweenSnapshot;
 use crate::record::TweenState;
-use crate::record::with_ends;
+use crate::step::Begun;
+use crate::step::run;
+use crate::step::step_on;
 use refusal::Refusal;
 
-fn after_folds(waited: f32, p: Folding) -> TweenSnapshot
-    ensures { λ r. ⌜ r ≡ afterFolds waited p ⌝ }
-{
-    let state = if p.completed {
-        TweenState::Completed
-    } else {
-        TweenState::Running
-    };
-    TweenSnapshot {
-        elapsed: p.elapsed,
-        delay_elapsed: waited,
-        loop_count: p.loop_count,
-        ping_pong_reverse: p.ping_pong_reverse,
-        state,
-    }
+// What the step changes, so that a caller can set it in place: delay_elapsed, and what folding
+// changes. Unsure says nothing: `step_on` answers every step.
+pub enum Glided {
+    To { waited: f32, now: Folding },
+    Unsure,
 }
 
-fn run_to(t: Tween, waited: f32, p: Folding) -> Updated
-    ensures { λ r. ⌜ r ≡ ran t waited p ⌝ }
-{
-    let now = after_folds(waited, p);
-    let next = with_ends(t, t.start, t.end, now);
-    Updated::Ran {
-        tween: next,
-        folds: p.folds,
-        running: !p.completed,
-    }
-}
-
-// The tween runs on with delay_elapsed waited and elapsed e.
-fn advance(t: Tween, waited: f32, e: f32) -> Updated
+fn slide(t: Tween, waited: f32, e: f32) -> Glided
     requires { ⌜ t .«loop_count» ≤ 16777216 ⌝ }
-    ensures { λ r. ⌜ r ≡ advanced t waited e ⌝ }
+    ensures { λ r. ⌜ Slides t waited e r ⌝ }
 {
-    let mut first = Folding {
+    if t.duration == 0.0 {
+        return Glided::Unsure;
+    }
+    let first = Folding {
         elapsed: e,
         loop_count: t.loop_count,
         ping_pong_reverse: t.ping_pong_reverse,
         completed: false,
         folds: 0,
     };
-    if t.duration == 0.0 {
-        first.elapsed = 0.0;
-        first.completed = true;
-        return run_to(t, waited, first);
+    if !is_due(t.duration, first) {
+        return Glided::To { waited, now: first };
     }
     let looping = t.looping;
-    let last = fold_all(looping, t.duration, first);
-    if is_due(t.duration, last) {
-        return Updated::Refused {
-            tween: t,
-            refusal: Refusal::TooManyFolds,
-        };
+    let once = fold_once(looping, t.duration, first);
+    if once.completed {
+        return Glided::Unsure;
     }
-    run_to(t, waited, last)
+    if is_due(t.duration, once) {
+        return Glided::Unsure;
+    }
+    if once.loop_count > 16777216 {
+        return Glided::Unsure;
+    }
+    Glided::To { waited, now: once }
 }
 
-// How a step begins. The rest of the update is one place, so that it can be inlined.
-pub enum Begun {
-    // Paused or Completed.
-    Still(bool),
-    Lost,
-    // Within the delay, with this delay_elapsed.
-    Waits(f32),
-    Runs { waited: f32, elapsed: f32 },
-}
-
-// A step x from 0 up while Idle: the delay is not scaled, what is left over of the step is.
-fn wait(t: Tween, x: f32) -> Begun
-    ensures { λ r. ⌜ finishOf t r ≡ waitOf t x (t .«delay_elapsed» ⊕ x) ⌝ }
-{
-    let waited = t.delay_elapsed + x;
-    if (x > 0.0) & (waited == t.delay_elapsed) {
-        return Begun::Lost;
-    }
-    if waited < t.delay {
-        return Begun::Waits(waited);
-    }
-    Begun::Runs {
-        waited,
-        elapsed: t.elapsed + (waited - t.delay) * t.time_scale,
-    }
-}
-
-// A step x from 0 up while Running.
-fn run(t: Tween, x: f32) -> Begun
-    ensures { λ r. ⌜ finishOf t r ≡ runOf t x (t .elapsed ⊕ x ⊗ t .«time_scale») ⌝ }
-{
-    let e = t.elapsed + x * t.time_scale;
-    if (x > 0.0) & (t.time_scale > 0.0) & (t.elapsed < t.duration) & (e == t.elapsed) {
-        return Begun::Lost;
-    }
-    Begun::Runs {
-        waited: t.delay_elapsed,
-        elapsed: e,
-    }
-}
-
-fn begin(t: Tween, x: f32) -> Begun
-    ensures { λ r. ⌜ finishOf t r ≡ byState (t .state) t x ⌝ }
+// An inner step, for runs of many.
+pub fn glide(t: Tween, step: f32) -> Glided
+    requires { ⌜ withinOf t ≡ true ⌝ }
+    ensures { λ r. ⌜ Glides t step r ⌝ }
 {
     let state = t.state;
-    match state {
-        TweenState::Idle => wait(t, x),
-        TweenState::Running => run(t, x),
-        TweenState::Paused => Begun::Still(true),
-        TweenState::Completed => Begun::Still(false),
-    }
-}
-
-fn finish(t: Tween, begun: Begun) -> Updated
-    requires { ⌜ t .«loop_count» ≤ 16777216 ⌝ }
-    ensures { λ r. ⌜ r ≡ finishOf t begun ⌝ }
-{
-    match begun {
-        Begun::Still(running) => Updated::Ran {
-            tween: t,
-            folds: 0,
-            running,
-        },
-        Begun::Lost => Updated::Refused {
-            tween: t,
-            refusal: Refusal::StepLost,
-        },
-        Begun::Waits(waited) => {
-            let now = TweenSnapshot {
-                elapsed: t.elapsed,
-                delay_elapsed: waited,
-                loop_count: t.loop_count,
-                ping_pong_reverse: t.ping_pong_reverse,
-                state: TweenState::Idle,
-            };
-            let next = with_ends(t, t.start, t.end, now);
-            Updated::Ran {
-                tween: next,
-                folds: 0,
-                running: true,
-            }
-        }
-        Begun::Runs { waited, elapsed } => advance(t, waited, elapsed),
-    }
-}
-
-// `update` of a tween that is known to be within its limits: an inner step, for runs of many.
-pub fn step_on(t: Tween, step: f32) -> Updated
-    requires { ⌜ withinOf t ≡ true ⌝ }
-    ensures { λ r. ⌜ r ≡ updateOf t step ⌝ }
-{
+    let TweenState::Running = state else {
+        return Glided::Unsure;
+    };
     if step > 16777216.0 {
-        return Updated::Refused {
-            tween: t,
-            refusal: Refusal::StepTooLong,
-        };
+        return Glided::Unsure;
     }
-    finish(t, begin(t, math::max_zero(step)))
+    let Begun::Runs { waited, elapsed } = run(t, math::max_zero(step)) else {
+        return Glided::Unsure;
+    };
+    slide(t, waited, elapsed)
 }
 
 impl Tween {
@@ -184,6 +85,20 @@ impl Tween {
                 refusal: Refusal::RecordBreaksLimit,
             };
         }
-        step_on(self, step)
+        match glide(self, step) {
+            Glided::To { waited, now } => {
+                let mut t = self;
+                t.elapsed = now.elapsed;
+                t.delay_elapsed = waited;
+                t.loop_count = now.loop_count;
+                t.ping_pong_reverse = now.ping_pong_reverse;
+                Updated::Ran {
+                    tween: t,
+                    folds: now.folds,
+                    running: true,
+                }
+            }
+            Glided::Unsure => step_on(self, step),
+        }
     }
 }

@@ -34,7 +34,7 @@ sampled c =
     let b = s .before .before .before .before .before .before in
     let t = b .args .t1 in
     let l : length t ≡ 64 = array-long t _ (b .good .0) in
-    picked-by t (b .args .n) (omega arith) (omega arith) (b .pre .2) (b .pre .0) _ _ _ _ _ _
+    picked-by t (b .args .n) (omega arith) (omega arith) (b .pre .0) _ _ _ _ _ _
     (c .before .before .before .before .before .before .max-zero .ensures)
     (c .before .before .before .before .before .cut .ensures)
     (s .before .times-of .ensures)

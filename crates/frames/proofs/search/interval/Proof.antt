@@ -1,18 +1,20 @@
--- `interval` meets its contract. The invariant: the halvings that are left, from here, end where six from the start do. The measure is what lies between the two places. Assumes nothing.
-use Prim.Native.Nat.{_-_}
-use mathlib.Core.Path.{refl, sym, ap, _∙_}
+-- `interval` meets its contract. The invariant: what is counted and what is left to count make the whole count. The measure is the places that are left. Assumes nothing.
+use Prim.Native.Nat.{_+_, _-_, _<_, _≤_}
+use mathlib.Core.Path.{_≡_}
 use native.Mathlib.Omega.{arith}
 use borrow.Author.Needs.{needs}
-use Rattle.frames.specs.Halving.{Bounds}
-use Rattle.frames.proofs.Halves.{Left, left-up, left-down, halvings-end}
+use denote.Ref.{now}
+use lib.ListN.{take, drop}
+use Rattle.frames.specs.Counting.{countOf, counted}
+use Rattle.frames.proofs.Counts.{byte-below, byte-fits, count-next, count-past}
 use Rattle.frames.proofs.search.interval.Statement.{statement}
 use Rattle.frames.proofs.search.interval.Tie as tie
 
 abbrev Inv-loop : tie.InvT-loop
-Inv-loop times n t low₀ high₀ low high = Left times t n low high
+Inv-loop times n t last count₀ i₀ count i = (count < i) × (i ≤ 63) × (count + countOf t (drop i (take last times)) ≡ counted times t last)
 
 abbrev μ-loop : tie.MeasureT-loop
-μ-loop times n t low₀ high₀ low high = high - low
+μ-loop times n t last count₀ i₀ count i = last - i
 
 pub interval-spec : {M : Type 1} → statement M
 interval-spec =
@@ -21,20 +23,19 @@ interval-spec =
     Inv-loop
     μ-loop
     (λ c. search needs)
-    (λ c. record { small = omega arith; inside = omega arith; left = 6; enough = omega arith; same = refl })
+    (λ c. (omega arith, omega arith, omega arith))
     (λ c. search needs)
     (λ c. search needs)
     (λ c. search needs)
+    (λ c. search (needs, byte-fits))
     (λ c. search needs)
     (λ c. search needs)
     (λ c.
-    let s = c .before .before .before in
-    left-up _ _ _ (s .loop .low) (s .loop .high) (s .before .pre .1) (c .before .before .loop-test .taken) (s .loop .inv) (c .if1 .taken))
+    let s = c .before .before in
+    let b = s .before in
+    (search (needs, byte-below), omega arith, omega (arith, s .loop .inv .2, count-next (b .args .t) (now (b .args .times)) (b .args .n - 1) (s .loop .i) (c .before .loop-test .taken))))
     (λ c. search needs)
-    (λ c.
-    let s = c .before .before .before in
-    left-down _ _ _ (s .loop .low) (s .loop .high) (s .before .pre .1) (c .before .before .loop-test .taken) (s .loop .inv) (c .if1 .left))
     (λ c.
     let s = c .before in
-    let i = s .loop .inv in
-    (i .small, ap (λ (b : Bounds). b .low) (sym (halvings-end _ _ (i .left) (s .loop .low) (s .loop .high) (c .loop-test .left)) ∙ i .same))))
+    let b = s .before in
+    (omega arith, omega (arith, s .loop .inv .2, count-past (b .args .t) (now (b .args .times)) (b .args .n - 1) (s .loop .i) (c .loop-test .left)))))

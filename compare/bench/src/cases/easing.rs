@@ -1,0 +1,37 @@
+use super::{Case, name_of};
+use crate::ffi::lax_easing_apply;
+use crate::meaning::easing_words;
+use crate::rules::is_one_of_twelve;
+use crate::{inputs, rust, side};
+use oracle::Easing;
+use std::hint::black_box;
+
+const PROGRESSES: usize = 1_024;
+
+/// The supplied kinds, with the parameters of `all_named`.
+pub fn cases() -> Vec<Case> {
+    let supplied = Easing::all_named().iter().filter(|easing| !is_one_of_twelve(&easing_words(easing)));
+    supplied.map(apply).collect()
+}
+
+fn apply(easing: &'static Easing) -> Case {
+    let progresses = inputs::below(1.0, PROGRESSES);
+    let (words, same) = (easing_words(easing), progresses.clone());
+    Case {
+        name: format!("apply, {}", name_of(easing)),
+        bar: None,
+        answers: PROGRESSES as f64,
+        size: 1,
+        ours: side::filling(PROGRESSES, move |answers| {
+            for (answer, t) in answers.iter_mut().zip(&progresses) {
+                *answer = lax_easing_apply(words, *t);
+            }
+        }),
+        rust: side::filling(PROGRESSES, move |answers| {
+            let easing = black_box(easing);
+            for (answer, t) in answers.iter_mut().zip(&same) {
+                *answer = rust::apply(easing, *t);
+            }
+        }),
+    }
+}

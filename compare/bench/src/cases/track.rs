@@ -1,0 +1,129 @@
+use super::{BEZIER, Case, name_of};
+use crate::ffi::{lax_track_value_at, track_values_at};
+use crate::rules::last_time;
+use crate::words::LaxTrack;
+use crate::{inputs, meaning, rust, side};
+use oracle::Easing;
+use std::hint::black_box;
+
+/// In a batch, but where their number grows.
+const SAMPLES: usize = 1_000;
+
+/// In a pass, at least: so many different ones that no branch is learnt by heart. With 1,000 they are.
+const TIMES: usize = 8_000;
+
+pub fn cases() -> Vec<Case> {
+    let (mut single, mut batches) = (Vec::new(), Vec::new());
+    for frames in [2, 8, 64] {
+        for easing in [Easing::Linear, Easing::EaseInOutCubic, BEZIER, Easing::EaseInCirc] {
+            single.push(value_at(&easing, frames));
+            batches.push(sampled(&easing, frames));
+        }
+    }
+    batches.push(sampled(&Easing::EaseInQuad, 64));
+    batches.extend([Easing::Linear, Easing::EaseInOutCubic].map(|easing| in_order(&easing, 64)));
+    single.extend(batches);
+    single
+}
+
+/// Of one value, the record being checked in each call.
+fn single_bar(easing: &Easing, frames: usize) -> Option<f64> {
+    match (easing, frames) {
+        (Easing::EaseInCirc, _) => None,
+        (_, 2) => Some(5.0),
+        (_, 64) => Some(10.0),
+        _ => None,
+    }
+}
+
+fn batch_bar(easing: &Easing, frames: usize) -> Option<f64> {
+    match (easing, frames) {
+        (Easing::EaseInOutCubic, _) => Some(0.8),
+        (Easing::CubicBezier(..), _) => Some(1.1),
+        (Easing::Linear, 2) => Some(0.8),
+        (Easing::Linear | Easing::EaseInQuad, 64) => Some(1.0),
+        _ => None,
+    }
+}
+
+fn value_at(easing: &Easing, frames: usize) -> Case {
+    let words = inputs::track(easing, frames);
+    let (track, times) = (meaning::track(&words), inputs::below(last_time(&words), TIMES));
+    let same = times.clone();
+    Case {
+        name: format!("value_at, {frames} frames, {}", name_of(easing)),
+        bar: single_bar(easing, frames),
+        answers: TIMES as f64,
+        size: 1,
+        ours: side::filling(TIMES, move |answers| {
+            for (answer, time) in answers.iter_mut().zip(&times) {
+                *answer = lax_track_value_at(words, *time);
+            }
+        }),
+        rust: side::filling(TIMES, move |answers| {
+            let track = black_box(&track);
+            for (answer, time) in answers.iter_mut().zip(&same) {
+                *answer = rust::value_at(track, *time);
+            }
+        }),
+    }
+}
+
+/// A batch whose time is that of one sample.
+fn sampled(easing: &Easing, frames: usize) -> Case {
+    let track = inputs::track(easing, frames);
+    let times = inputs::below(last_time(&track), TIMES);
+    Case {
+        name: format!("batch of {SAMPLES}, {frames} frames, {}", name_of(easing)),
+        bar: batch_bar(easing, frames),
+        answers: TIMES as f64,
+        ..batch(track, times, SAMPLES)
+    }
+}
+
+/// The same with ascending times in each batch.
+fn in_order(easing: &Easing, frames: usize) -> Case {
+    let track = inputs::track(easing, frames);
+    let mut times = inputs::below(last_time(&track), TIMES);
+    times.chunks_mut(SAMPLES).for_each(|batch| batch.sort_by(f32::total_cmp));
+    Case {
+        name: format!("batch of {SAMPLES} in order, {frames} frames, {}", name_of(easing)),
+        answers: TIMES as f64,
+        ..batch(track, times, SAMPLES)
+    }
+}
+
+/// Batches of so many samples; the time is that of one.
+fn batch(words: LaxTrack, times: Vec<f32>, samples: usize) -> Case {
+    let (track, same, count) = (meaning::track(&words), times.clone(), times.len());
+    Case {
+        name: format!("batch of {samples}, {} frames", words.count),
+        bar: None,
+        answers: (count / samples) as f64,
+        size: samples,
+        ours: side::filling(count, move |answers| {
+            for (out, times) in answers.chunks_mut(samples).zip(times.chunks(samples)) {
+                assert_eq!(track_values_at(words, times, out).number, 0);
+            }
+        }),
+        rust: side::filling(count, move |answers| {
+            for (out, times) in answers.chunks_mut(samples).zip(same.chunks(samples)) {
+                rust::values_at(black_box(&track), times, out);
+            }
+        }),
+    }
+}
+
+fn linear(frames: usize, samples: usize) -> Case {
+    let track = inputs::track(&Easing::Linear, frames);
+    let times = inputs::below(last_time(&track), TIMES.next_multiple_of(samples));
+    batch(track, times, samples)
+}
+
+pub fn growing_samples() -> Vec<Case> {
+    [1, 10, 100, 1_000, 10_000].map(|samples| linear(64, samples)).into()
+}
+
+pub fn growing_frames() -> Vec<Case> {
+    [2, 4, 8, 16, 32, 64].map(|frames| Case { size: frames, ..linear(frames, SAMPLES) }).into()
+}

@@ -1,0 +1,96 @@
+//! Two answers held against each other.
+use crate::words::{Float, Kind, Whole, Words};
+
+/// Where our answer is not the expected one.
+pub struct Difference {
+    pub what: String,
+    pub ours: String,
+    pub expected: String,
+}
+
+/// A word as bits and as a decimal.
+pub fn shown(word: u32, kind: Kind) -> String {
+    match kind {
+        Whole => format!("{word}"),
+        Float => format!("0x{word:08x} ({:?})", f32::from_bits(word)),
+    }
+}
+
+/// Bit for bit, but that a zero of either sign counts as equal.
+fn is_same(ours: u32, expected: u32, kind: Kind) -> bool {
+    let is_zero = |word: u32| word << 1 == 0;
+    ours == expected || kind == Float && is_zero(ours) && is_zero(expected)
+}
+
+fn differ(what: String, ours: String, expected: String) -> Result<(), Difference> {
+    Err(Difference { what, ours, expected })
+}
+
+/// Every word of an accepted answer.
+pub fn same<T: Words>(call: &str, ours: &T, expected: &T) -> Result<(), Difference> {
+    hold(call, ours, expected, is_same)
+}
+
+/// Every word of a refused answer, to the bit.
+pub fn same_bits<T: Words>(call: &str, ours: &T, expected: &T) -> Result<(), Difference> {
+    hold(call, ours, expected, |ours, expected, _| ours == expected)
+}
+
+fn hold<T: Words>(
+    call: &str,
+    ours: &T,
+    expected: &T,
+    agree: fn(u32, u32, Kind) -> bool,
+) -> Result<(), Difference> {
+    if ours.words() == expected.words() {
+        return Ok(());
+    }
+    let pairs = ours.words().iter().zip(expected.words());
+    for ((ours, expected), (name, kind)) in pairs.zip(T::layout()) {
+        if !agree(*ours, *expected, kind) {
+            return differ(format!("{call}: {name}"), shown(*ours, kind), shown(*expected, kind));
+        }
+    }
+    Ok(())
+}
+
+pub fn same_count(what: String, ours: usize, expected: usize) -> Result<(), Difference> {
+    if ours == expected { Ok(()) } else { differ(what, ours.to_string(), expected.to_string()) }
+}
+
+/// A lent list afterwards: what was written up to `front`, and to the bit what lies behind it.
+pub fn same_list(
+    what: &str,
+    kind: Kind,
+    ours: &[u32],
+    expected: &[u32],
+    front: usize,
+) -> Result<(), Difference> {
+    for (place, (ours, expected)) in ours.iter().zip(expected).enumerate() {
+        let agrees = if place < front { is_same(*ours, *expected, kind) } else { ours == expected };
+        if !agrees {
+            return differ(format!("{what}[{place}]"), shown(*ours, kind), shown(*expected, kind));
+        }
+    }
+    Ok(())
+}
+
+pub fn must(what: &str, holds: bool) -> Result<(), Difference> {
+    if holds { Ok(()) } else { differ(what.into(), "no".into(), "yes".into()) }
+}
+
+/// What a call answered, held against the refusal that came of the rules, or the Rust's answer.
+pub fn answered<T: Words>(
+    call: &str,
+    number: u32,
+    ours: T,
+    refused: T,
+    accepted: impl FnOnce() -> T,
+) -> Result<T, Difference> {
+    if number == 0 {
+        same(call, &ours, &accepted())?
+    } else {
+        same_bits(call, &ours, &refused)?
+    }
+    Ok(ours)
+}

@@ -1,0 +1,90 @@
+//! Every f32 from 0 to 1, for each supplied kind at the parameters of `all_named`. A kind that is done is
+//! noted in a file, with the hashes of the archive and of the sources, and is left out the next time.
+use crate::compared;
+use crate::cores::on_all_cores;
+use crate::ffi::lax_easing_apply;
+use crate::meaning;
+use crate::rules::is_one_of_twelve;
+use oracle::Easing;
+use std::fs::{self, OpenOptions};
+use std::io::Write;
+use std::sync::atomic::{AtomicU32, AtomicU64, Ordering::Relaxed};
+
+const DONE: &str = concat!(env!("CARGO_MANIFEST_DIR"), "/../../target/exhaustive.txt");
+const ONE: u32 = 0x3f80_0000;
+/// How many floats a thread takes at a time.
+const PIECE: u32 = 1 << 20;
+
+/// Whether all kinds, or the one that is named, agree.
+pub fn run(only: Option<&str>) -> bool {
+    println!("{}", compared());
+    let named = Easing::all_named().iter().filter(|easing| !is_one_of_twelve(&meaning::easing_words(easing)));
+    let chosen: Vec<&Easing> = named.filter(|easing| only.is_none_or(|only| only == name(easing))).collect();
+    let agreeing = chosen.iter().filter(|easing| agrees(easing)).count();
+    let (kinds, calls) = (chosen.len(), chosen.len() as u64 * u64::from(ONE + 1));
+    println!("exhaustive: {kinds} kinds, {calls} calls, {} kinds with differences", kinds - agreeing);
+    kinds > 0 && agreeing == kinds
+}
+
+fn agrees(easing: &Easing) -> bool {
+    let found = format!("{}: {} calls, 0 differences", name(easing), ONE + 1);
+    let line = format!("{}; {found}", compared());
+    if fs::read_to_string(DONE).unwrap_or_default().lines().any(|done| done == line) {
+        println!("{found}, done earlier");
+        return true;
+    }
+    let first = first_difference(easing);
+    if first == u32::MAX {
+        println!("{found}");
+        note(&line);
+    } else {
+        show(easing, first);
+    }
+    first == u32::MAX
+}
+
+fn name(easing: &Easing) -> String {
+    let shown = format!("{easing:?}");
+    shown.split(|c: char| !c.is_alphanumeric()).next().unwrap_or_default().to_string()
+}
+
+fn note(line: &str) {
+    let file = OpenOptions::new().create(true).append(true).open(DONE);
+    if let Err(error) = file.and_then(|mut file| writeln!(file, "{line}")) {
+        eprintln!("{DONE}: {error}");
+    }
+}
+
+fn show(easing: &Easing, bits: u32) {
+    let t = f32::from_bits(bits);
+    let ours = lax_easing_apply(meaning::easing_words(easing), t);
+    println!("{}: difference at 0x{bits:08x} ({t:?})", name(easing));
+    println!("    ours:     number {}, 0x{:08x} ({:?})", ours.number, ours.value.to_bits(), ours.value);
+    println!("    expected: number 0, 0x{:08x} ({:?})", easing.apply(t).to_bits(), easing.apply(t));
+}
+
+/// The bits of the least t whose answers differ; u32::MAX where there is none.
+fn first_difference(easing: &Easing) -> u32 {
+    let (next, first) = (AtomicU64::new(0), AtomicU32::new(u32::MAX));
+    let work = || {
+        while let Ok(piece) = u32::try_from(next.fetch_add(u64::from(PIECE), Relaxed))
+            && piece <= ONE
+        {
+            first.fetch_min(first_in(easing, piece), Relaxed);
+        }
+    };
+    let part = || (next.load(Relaxed) * 100 / u64::from(ONE)).min(100);
+    on_all_cores(work, |seconds| eprintln!("{}, {seconds} s: {} %", name(easing), part()));
+    first.into_inner()
+}
+
+fn first_in(easing: &Easing, from: u32) -> u32 {
+    let words = meaning::easing_words(easing);
+    let differs = |bits: &u32| {
+        let t = f32::from_bits(*bits);
+        let (ours, expected) = (lax_easing_apply(words, t), easing.apply(t));
+        // a zero of either sign counts as equal
+        ours.number != 0 || ours.value.to_bits() != expected.to_bits() && (ours.value, expected) != (0.0, 0.0)
+    };
+    (from..=ONE.min(from + PIECE - 1)).find(differs).unwrap_or(u32::MAX)
+}

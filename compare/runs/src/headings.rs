@@ -1,0 +1,63 @@
+//! Under which headings of the tally an input is counted.
+use crate::input::Input;
+use crate::subjects::{EasingCall, TrackCall, TweenCall};
+use crate::tally::{Heading, Section};
+
+pub fn headings(made: &'static str, input: &Input) -> Vec<Heading> {
+    let mut all = vec![(Section::Call, input.name()), (Section::Made, made)];
+    if let Input::Track(t, _) = input {
+        all.push((Section::Frames, frame_count(t.count)));
+    }
+    all.extend(argument(input).map(|x| (Section::Argument, class(x))));
+    if let [(_, given), rest @ ..] = &input.lengths()[..] {
+        let least = rest.iter().map(|(_, length)| *length).min().unwrap_or(0);
+        let most = rest.iter().map(|(_, length)| *length).max().unwrap_or(0);
+        all.push((Section::List, output(*given, least, most)));
+    }
+    all
+}
+
+fn frame_count(count: u32) -> &'static str {
+    match count {
+        0 => "0",
+        1 => "1",
+        2 => "2",
+        3..63 => "3 to 62",
+        63 => "63",
+        64 => "64",
+        _ => "count above 64",
+    }
+}
+
+fn argument(input: &Input) -> Option<f32> {
+    match input {
+        Input::Easing(EasingCall::Apply(_, x))
+        | Input::Tween(_, TweenCall::Seek(x) | TweenCall::Update(x))
+        | Input::Track(_, TrackCall::Push(x, _) | TrackCall::PushEased(x, _, _))
+        | Input::Track(_, TrackCall::ValueAt(x) | TrackCall::Update(x) | TrackCall::SeekTo(x)) => Some(*x),
+        _ => None,
+    }
+}
+
+fn class(x: f32) -> &'static str {
+    match x {
+        _ if x.is_nan() => "NaN",
+        _ if x.is_infinite() => "infinite",
+        _ if x == 0.0 && x.is_sign_negative() => "-0",
+        _ if x == 0.0 => "+0",
+        _ if x.is_subnormal() => "subnormal",
+        _ if x < 0.0 => "negative",
+        _ if x <= 1.0 => "above 0, to 1",
+        _ if x <= 16_777_216.0 => "above 1, to 16,777,216",
+        _ => "above 16,777,216",
+    }
+}
+
+fn output(given: usize, least: usize, most: usize) -> &'static str {
+    match () {
+        _ if given == 0 => "empty list",
+        _ if least < given => "output too short",
+        _ if most > given => "output longer than the list",
+        _ => "output as long as the list",
+    }
+}

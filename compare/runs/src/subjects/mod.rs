@@ -1,0 +1,18 @@
+//! Each call: ours and the Rust's, side by side.
+mod easing;
+mod track;
+mod tween;
+
+pub use easing::*;
+pub use track::*;
+pub use tween::*;
+
+/// What stands in a lent output before a call: a NaN that no call writes.
+pub const SENTINEL: f32 = f32::from_bits(0x7fa5_5a5a);
+
+/// Places behind a lent output, which no call may reach.
+pub const GUARD: usize = 2;
+
+pub fn bits(list: &[f32]) -> Vec<u32> {
+    list.iter().map(|x| x.to_bits()).collect()
+}

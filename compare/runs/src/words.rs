@@ -1,0 +1,212 @@
+//! The records and answers of the C interface, as include/laxombiit.h has them, and the words that they
+//! are made of.
+use std::mem::size_of;
+use std::slice;
+
+#[derive(Clone, Copy, PartialEq)]
+pub enum Kind {
+    Whole,
+    Float,
+}
+
+pub use Kind::{Float, Whole};
+
+/// The name and the kind of each word, in order.
+pub type Layout = Vec<(String, Kind)>;
+
+/// # Safety
+/// Every field is one word of 32 bits or has this trait, so that there is no padding.
+pub unsafe trait Words: Copy {
+    fn layout() -> Layout;
+
+    fn words(&self) -> &[u32] {
+        unsafe { slice::from_raw_parts((self as *const Self).cast(), size_of::<Self>() / 4) }
+    }
+
+    fn words_mut(&mut self) -> &mut [u32] {
+        unsafe { slice::from_raw_parts_mut((self as *mut Self).cast(), size_of::<Self>() / 4) }
+    }
+}
+
+fn named(words: &[(&str, Kind)]) -> Layout {
+    words.iter().map(|(name, kind)| (name.to_string(), *kind)).collect()
+}
+
+fn under(name: &str, inner: Layout) -> Layout {
+    inner.into_iter().map(|(word, kind)| (format!("{name}.{word}"), kind)).collect()
+}
+
+#[repr(C)]
+#[derive(Clone, Copy, Debug, Default)]
+pub struct LaxEasing {
+    pub kind: u32,
+    pub a: f32,
+    pub b: f32,
+    pub c: f32,
+    pub d: f32,
+    pub count: u32,
+}
+
+unsafe impl Words for LaxEasing {
+    fn layout() -> Layout {
+        named(&[("kind", Whole), ("a", Float), ("b", Float), ("c", Float), ("d", Float), ("count", Whole)])
+    }
+}
+
+#[repr(C)]
+#[derive(Clone, Copy, Debug, Default)]
+pub struct LaxLoop {
+    pub mode: u32,
+    pub passes: u32,
+}
+
+unsafe impl Words for LaxLoop {
+    fn layout() -> Layout {
+        named(&[("mode", Whole), ("passes", Whole)])
+    }
+}
+
+#[repr(C)]
+#[derive(Clone, Copy, Debug, Default)]
+pub struct LaxTween {
+    pub start: f32,
+    pub end: f32,
+    pub duration: f32,
+    pub easing: LaxEasing,
+    pub delay: f32,
+    pub time_scale: f32,
+    pub looping: LaxLoop,
+    pub elapsed: f32,
+    pub delay_elapsed: f32,
+    pub state: u32,
+    pub loop_count: u32,
+    pub ping_pong_reverse: u32,
+}
+
+unsafe impl Words for LaxTween {
+    fn layout() -> Layout {
+        let mut layout = named(&[("start", Float), ("end", Float), ("duration", Float)]);
+        layout.extend(under("easing", LaxEasing::layout()));
+        layout.extend(named(&[("delay", Float), ("time_scale", Float)]));
+        layout.extend(under("looping", LaxLoop::layout()));
+        layout.extend(named(&[("elapsed", Float), ("delay_elapsed", Float), ("state", Whole)]));
+        layout.extend(named(&[("loop_count", Whole), ("ping_pong_reverse", Whole)]));
+        layout
+    }
+}
+
+#[repr(C)]
+#[derive(Clone, Copy, Debug, Default)]
+pub struct LaxKeyframe {
+    pub time: f32,
+    pub value: f32,
+    pub easing: LaxEasing,
+}
+
+unsafe impl Words for LaxKeyframe {
+    fn layout() -> Layout {
+        let mut layout = named(&[("time", Float), ("value", Float)]);
+        layout.extend(under("easing", LaxEasing::layout()));
+        layout
+    }
+}
+
+pub const PLACES: usize = 64;
+
+#[repr(C)]
+#[derive(Clone, Copy)]
+pub struct LaxTrack {
+    pub frames: [LaxKeyframe; PLACES],
+    pub count: u32,
+    pub elapsed: f32,
+    pub looping: LaxLoop,
+    pub loop_count: u32,
+    pub complete: u32,
+}
+
+impl Default for LaxTrack {
+    fn default() -> Self {
+        let frames = [LaxKeyframe::default(); PLACES];
+        Self { frames, count: 0, elapsed: 0.0, looping: LaxLoop::default(), loop_count: 0, complete: 0 }
+    }
+}
+
+unsafe impl Words for LaxTrack {
+    fn layout() -> Layout {
+        let mut layout = Layout::new();
+        for place in 0..PLACES {
+            layout.extend(under(&format!("frames[{place}]"), LaxKeyframe::layout()));
+        }
+        layout.extend(named(&[("count", Whole), ("elapsed", Float)]));
+        layout.extend(under("looping", LaxLoop::layout()));
+        layout.extend(named(&[("loop_count", Whole), ("complete", Whole)]));
+        layout
+    }
+}
+
+/// An answer: its number, words of its own, and a record where it has one.
+macro_rules! answer {
+    ($name:ident { $($word:ident: $type:ty, $kind:expr;)* } $($part:ident: $record:ty)?) => {
+        #[repr(C)]
+        #[derive(Clone, Copy, Default)]
+        pub struct $name {
+            pub number: u32,
+            $(pub $word: $type,)*
+            $(pub $part: $record,)?
+        }
+
+        unsafe impl Words for $name {
+            fn layout() -> Layout {
+                #[allow(unused_mut)]
+                let mut layout = named(&[("number", Whole), $((stringify!($word), $kind),)*]);
+                $(layout.extend(under(stringify!($part), <$record>::layout()));)?
+                layout
+            }
+        }
+    };
+}
+
+answer!(LaxValue { value: f32, Float; });
+answer!(LaxFlag { flag: u32, Whole; });
+answer!(LaxEasingAnswer {} easing: LaxEasing);
+answer!(LaxSnapshot {
+    elapsed: f32, Float;
+    delay_elapsed: f32, Float;
+    state: u32, Whole;
+    loop_count: u32, Whole;
+    ping_pong_reverse: u32, Whole;
+});
+answer!(LaxChanged {} tween: LaxTween);
+answer!(LaxUpdated { folds: u32, Whole; running: u32, Whole; } tween: LaxTween);
+answer!(LaxTrackChanged {} track: LaxTrack);
+answer!(LaxTrackUpdated { running: u32, Whole; } track: LaxTrack);
+
+#[repr(C)]
+#[derive(Clone, Copy)]
+pub struct LaxRun {
+    pub done: usize,
+    pub number: u32,
+    pub tween: LaxTween,
+}
+
+#[repr(C)]
+#[derive(Clone, Copy)]
+pub struct LaxFilled {
+    pub filled: usize,
+    pub number: u32,
+}
+
+const _: () = {
+    assert!(size_of::<LaxEasing>() == 24);
+    assert!(size_of::<LaxTween>() == 72);
+    assert!(size_of::<LaxKeyframe>() == 32);
+    assert!(size_of::<LaxTrack>() == 2072);
+    assert!(size_of::<LaxEasingAnswer>() == 28);
+    assert!(size_of::<LaxSnapshot>() == 24);
+    assert!(size_of::<LaxChanged>() == 76);
+    assert!(size_of::<LaxUpdated>() == 84);
+    assert!(size_of::<LaxTrackChanged>() == 2076);
+    assert!(size_of::<LaxTrackUpdated>() == 2080);
+    assert!(size_of::<LaxRun>() == 88);
+    assert!(size_of::<LaxFilled>() == 16);
+};

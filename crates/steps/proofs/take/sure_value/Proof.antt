@@ -1,0 +1,16 @@
+-- `sure_value` meets its contract: a tween within its limits has a value. Assumes nothing.
+use borrow.Author.Needs.{needs}
+use mathlib.Core.Path.{sym, _∙_}
+use Rattle.steps.proofs.Taking.{always-value}
+use Rattle.steps.proofs.take.sure_value.Statement.{statement}
+use Rattle.steps.proofs.take.sure_value.Tie as tie
+
+pub sure-value-spec : {M : Type 1} → statement M
+sure-value-spec =
+    tie.close
+    (tie.spec
+    (λ c κs. search needs)
+    (λ c. search needs)
+    (λ c. search needs)
+    (λ c. sym (c .before .before .before .value-in .ensures) ∙ c .before .value .given .1)
+    (λ c. absurd (always-value _ (c .before .before .before .pre) _ (sym (c .before .before .value-in .ensures) ∙ c .enum-told .given .1))))
