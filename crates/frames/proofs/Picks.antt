@@ -80,10 +80,12 @@ module _ (fs : List Keyframe) (n : ℕ) (some : 1 ≤ n) (fit : n ≤ length fs)
     abbrev pub Place : ℕ → Type 0
     Place i = le t (getD fs 0 noFrame .time) ≡ false → le (getD fs (n - 1) noFrame .time) t ≡ false → passedOf t (take n fs) ≡ i + 1
 
-    counted-place : (starts : List Float) → take n starts ≡ timesOf (take n fs) → Place (counted starts t (n - 1))
-    counted-place starts front a z =
-        let m : 1 < length (take n fs) = rw long (apart n some z (started a)) in
-        let e = counted-passed t beforeAll (take n fs) fine m (rw (at 0 some) (started a)) (rw last-at z) in
+    -- so it is with what is counted
+    found : (starts : List Float) → take n starts ≡ timesOf (take n fs) → Place (counted starts t (n - 1))
+    found starts front a z =
+        let start = started a in
+        let m : 1 < length (take n fs) = rw long (apart n some z start) in
+        let e = counted-passed t beforeAll (take n fs) fine m (rw (at 0 some) start) (rw last-at z) in
         rw (counted-front t starts (timesOf (take n fs)) n front) (rw long at e)
       where
         apart : (n : ℕ) → 1 ≤ n → le (getD fs (n - 1) noFrame .time) t ≡ false → le (getD fs 0 noFrame .time) t ≡ true → 1 < n
@@ -127,4 +129,4 @@ module _ (fs : List Keyframe) (n : ℕ) (some : 1 ≤ n) (fit : n ≤ length fs)
       → v ≡ sampleOf (take n fs) secs
   picked-by secs x t v starts low ex et es el ev =
       let c : t ≡ cutOf (maxZeroOf secs) (getD fs (n - 1) noFrame .time) = rw ex at et in
-      ev ∙ (rw el (picked secs t c (counted starts t (n - 1)) (counted-place t (real secs t c) starts es)))
+      ev ∙ (rw el (picked secs t c (counted starts t (n - 1)) (found t (real secs t c) starts es)))

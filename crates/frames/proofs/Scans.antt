@@ -1,4 +1,4 @@
--- A scan along the frames that keeps the last place with a time at or before t: at the end it is the interval of t. Assumes nothing.
+-- A scan along the frames that keeps the last place with a time at or before t: at the end the next frame is the first that t does not pass. Assumes nothing.
 use Prim.Native.Nat.{ℕ, _+_, _-_, _<_, _≤_}
 use mathlib.Core.Path.{_≡_, refl, sym, _∙_}
 use mathlib.Core.Bool.{Bool, true, false, cond, false≢true}
@@ -12,14 +12,8 @@ use lib.Ieee.{Float, le}
 use Rattle.math.specs.Range.{maxZeroOf}
 use Rattle.frames.specs.declared.frame.Keyframe.{Keyframe}
 use Rattle.frames.specs.Limits.{framesOf, noFrame}
-use Rattle.frames.specs.Sampling.{cutOf, pickOf, sampleOf}
+use Rattle.frames.specs.Sampling.{passedOf, cutOf, pickOf, sampleOf}
 use Rattle.frames.proofs.Picks.{passed-interval, real, started, picked}
-
--- i is the place before t: its frame is at or before t, and the next is not
-pub record Interval (fs : List Keyframe) (t : Float) (last i : ℕ) : Type 0 where
-  pub inside : i < last
-  pub at : le (getD fs i noFrame .time) t ≡ true
-  pub past : le (getD fs (i + 1) noFrame .time) t ≡ false
 
 -- low is the last of the first i places with a time at or before t; 0 where there is none
 pub record Scanned (fs : List Keyframe) (t : Float) (low i : ℕ) : Type 0 where
@@ -44,33 +38,26 @@ module _ (fs : List Keyframe) (t : Float) where
         below : (j : ℕ) → j < i + 1 → (j ≡ i) ⊎ (j < i)
         below j b = eq-or-lt-of-le (omega (arith, b))
 
-  pub scan-all : (n low : ℕ) → 1 ≤ n → Scanned fs t low n → le (getD fs 0 noFrame .time) t ≡ true → le (getD fs (n - 1) noFrame .time) t ≡ false → Interval fs t (n - 1) low
-  scan-all n low some s a z =
-      let h = before in
-      record {
-        inside = h;
-        at = here;
-        past = s .past (low + 1) (omega arith) (omega (arith, h));
-      }
-    where
-      here : le (getD fs low noFrame .time) t ≡ true
-      here = ⊎-elim (λ (e : low ≡ 0). rw e a) (λ (h : (low < n) × (le (getD fs low noFrame .time) t ≡ true)). h .1) (s .at)
-
-      most : low ≤ n - 1
-      most = ⊎-elim (λ (e : low ≡ 0). omega (arith, e)) (λ (h : (low < n) × (le (getD fs low noFrame .time) t ≡ true)). omega (arith, h .0)) (s .at)
-
-      before : low < n - 1
-      before = ⊎-elim (λ (e : low ≡ n - 1). absurd (false≢true (sym z ∙ rw e at here))) (λ (h : low < n - 1). h) (eq-or-lt-of-le most)
-
 -- what is picked beside the place that was found is the sample
 module _ (fs : List Keyframe) (n : ℕ) (some : 1 ≤ n) (fit : n ≤ length fs) (fine : framesOf (take n fs) ≡ true)
     (secs t : Float) (cut : t ≡ cutOf (maxZeroOf secs) (getD fs (n - 1) noFrame .time)) (low : ℕ) (s : Scanned fs t low n) where
-  pub scan-found : le t (getD fs 0 noFrame .time) ≡ false → le (getD fs (n - 1) noFrame .time) t ≡ false → Interval fs t (n - 1) low
-  scan-found a z = scan-all fs t n low some s (started fs n some fit fine t (real fs n some fit fine secs t cut) a) z
+  module _ (a : le t (getD fs 0 noFrame .time) ≡ false) (z : le (getD fs (n - 1) noFrame .time) t ≡ false) where
+    here : le (getD fs low noFrame .time) t ≡ true
+    here =
+        ⊎-elim (λ (e : low ≡ 0). rw e (started fs n some fit fine t (real fs n some fit fine secs t cut) a)) (λ (h : (low < n) × (le (getD fs low noFrame .time) t ≡ true)). h .1) (s .at)
+
+    pub scan-inside : low < n - 1
+    scan-inside = ⊎-elim (λ (e : low ≡ n - 1). absurd (false≢true (sym z ∙ rw e at here))) (λ (h : low < n - 1). h) (eq-or-lt-of-le most)
+      where
+        most : low ≤ n - 1
+        most = ⊎-elim (λ (e : low ≡ 0). omega (arith, e)) (λ (h : (low < n) × (le (getD fs low noFrame .time) t ≡ true)). omega (arith, h .0)) (s .at)
+
+    scan-passed : passedOf t (take n fs) ≡ low + 1
+    scan-passed =
+        let h = scan-inside in
+        let j : low < n = omega (arith, h) in
+        let k : low + 1 < n = omega (arith, h) in
+        passed-interval (take n fs) t low fine (omega (arith, length-take-le n fs fit)) (rw (getD-take n fs low noFrame j) here) (rw (getD-take n fs (low + 1) noFrame k) (s .past (low + 1) (omega arith) k))
 
   pub scan-picked : pickOf (getD fs 0 noFrame) (getD fs (n - 1) noFrame) (getD fs low noFrame) (getD fs (low + 1) noFrame) t ≡ sampleOf (take n fs) secs
-  scan-picked =
-      picked fs n some fit fine secs t cut low (λ a z.
-      let g = scan-found a z in
-      let h : low + 1 < n = omega (arith, g .inside) in
-      passed-interval (take n fs) t low fine (omega (arith, h, length-take-le n fs fit)) (rw (getD-take n fs low noFrame (omega (arith, h))) (g .at)) (rw (getD-take n fs (low + 1) noFrame h) (g .past)))
+  scan-picked = picked fs n some fit fine secs t cut low scan-passed

@@ -19,9 +19,9 @@ use Rattle.easing.specs.Apply.{fitsRecordOf}
 use Rattle.easing.specs.declared.answers.Eased.the-variants as eased
 use Rattle.frames.specs.declared.frame.Keyframe.{Keyframe}
 use Rattle.frames.specs.Limits.{timeOf, frameOf, framesAfter, framesOf, beforeAll, noFrame}
-use Rattle.frames.specs.Sampling.{cutOf, betweenOf, pickOf, sampleOf, timesOf}
+use Rattle.frames.specs.Sampling.{cutOf, betweenOf, pickOf, sampleOf}
 use Rattle.frames.proofs.Rising.{holds, time-top}
-use Rattle.frames.proofs.Scans.{Interval, Scanned, scan-none, scan-found, scan-picked}
+use Rattle.frames.proofs.Scans.{Scanned, scan-none, scan-inside, scan-picked}
 use Rattle.frames.proofs.Tops.{time-clock, later-time}
 use Rattle.keyframe.specs.Limits.{clockFits, withinOf}
 use Rattle.keyframe.specs.Sampling.{valueAtOf}
@@ -172,7 +172,7 @@ module _ (w : LaxTrack) (secs t : Float) (low : ℕ) (x : Ended w secs t low) wh
 
     module _ (z : le (getD (w .frames) (w .count - 1) noWords .time) t ≡ false) where
       pub place-found : low < w .count - 1
-      place-found = scan-found (framesRead w) (w .count) (x .some) long all-fine secs t cut-read low (x .seen .scan) (rw (time 0 (x .some)) a) (rw (time (w .count - 1) (omega (arith, x .some))) z) .inside
+      place-found = scan-inside (framesRead w) (w .count) (x .some) long all-fine secs t cut-read low (x .seen .scan) (rw (time 0 (x .some)) a) (rw (time (w .count - 1) (omega (arith, x .some))) z)
 
       pub quick-between : (v : Float) → v ≡ betweenOf (frameFrom (getD (w .frames) low noWords)) (frameFrom (getD (w .frames) (low + 1) noWords)) t → Value v ≡ quickOf w secs
       unfolding frameFrom
