@@ -1,4 +1,4 @@
-.PHONY: run test lib compare exhaustive power bench
+.PHONY: run test lib curves compare exhaustive power bench
 
 # The worked examples, and a ramp sampled to a table.
 run:
@@ -11,6 +11,10 @@ test:
 # The C interface as an archive.
 lib:
 	@bash scripts/lib
+
+# The plots of the manual, from the library's answers.
+curves: lib
+	@bash scripts/curves
 
 # Random inputs against the Rust, some minutes.
 compare: lib

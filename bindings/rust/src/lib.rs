@@ -18,3 +18,7 @@ pub use tween::{Loop, Stopped, Tween, TweenSnapshot, TweenState, Updated};
 #[cfg(doctest)]
 #[doc = include_str!("../README.md")]
 struct Readme;
+
+#[cfg(doctest)]
+#[doc = include_str!("../../../docs/MANUAL.md")]
+struct Manual;
