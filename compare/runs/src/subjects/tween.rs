@@ -54,9 +54,7 @@ impl TweenCall {
             Value | Progress | EasedProgress | PlaybackDuration => {
                 answered(name, self.value(t), self.read(t)).map(|answer| (answer.number, *t))
             }
-            Snapshot => {
-                answered(name, lax_tween_snapshot(*t), snapped(t)).map(|answer| (answer.number, *t))
-            }
+            Snapshot => answered(name, lax_tween_snapshot(*t), snapped(t)).map(|answer| (answer.number, *t)),
             Reset | Seek(_) | Reverse | Pause | Resume => {
                 let ours = answered(name, self.change(t), self.changed(t))?;
                 self.kept(ours.number, ours.tween)
