@@ -1,4 +1,5 @@
 // Records that the library hands back, as words of the list.
+ghost use Prim.Native.Nat.{_≤_};
 use crate::word::is_rest;
 use crate::word::put;
 use crate::word::put_float;
@@ -7,6 +8,7 @@ use tween::Tween;
 use words::LaxEasing;
 use words::LaxKeyframe;
 use words::LaxTrack;
+use words::LaxTween;
 use words::track_of;
 use words::track_words;
 use words::tween_words;
@@ -20,8 +22,8 @@ pub fn put_easing(out: &mut [u32], from: usize, e: LaxEasing) -> usize {
     put(out, n, e.count)
 }
 
-pub fn put_tween(out: &mut [u32], from: usize, t: Tween) -> usize {
-    let w = tween_words(t);
+// What stays while a tween runs.
+fn put_settings(out: &mut [u32], from: usize, w: LaxTween) -> usize {
     let mut n = put_float(out, from, w.start);
     n = put_float(out, n, w.end);
     n = put_float(out, n, w.duration);
@@ -29,7 +31,12 @@ pub fn put_tween(out: &mut [u32], from: usize, t: Tween) -> usize {
     n = put_float(out, n, w.delay);
     n = put_float(out, n, w.time_scale);
     n = put(out, n, w.looping.mode);
-    n = put(out, n, w.looping.passes);
+    put(out, n, w.looping.passes)
+}
+
+pub fn put_tween(out: &mut [u32], from: usize, t: Tween) -> usize {
+    let w = tween_words(t);
+    let mut n = put_settings(out, from, w);
     n = put_float(out, n, w.elapsed);
     n = put_float(out, n, w.delay_elapsed);
     n = put(out, n, w.state);
@@ -51,13 +58,20 @@ fn put_frame(out: &mut [u32], from: usize, k: LaxKeyframe) -> usize {
     put_easing(out, n, k.easing)
 }
 
-fn put_frames(out: &mut [u32], from: usize, frames: [LaxKeyframe; 64], count: u32) -> usize {
+// How many of the 64 places are frames.
+fn places(count: u32) -> usize
+    ensures { λ r. ⌜ r ≤ 64 ⌝ }
+{
+    if count < 64 { count as usize } else { 64 }
+}
+
+fn put_frames(out: &mut [u32], from: usize, frames: [LaxKeyframe; 64], count: usize) -> usize
+    requires { ⌜ count ≤ 64 ⌝ }
+{
     let mut n = from;
     let mut i: usize = 0;
-    while i < 64 {
-        if i < count as usize {
-            n = put_frame(out, n, frames[i]);
-        }
+    while i < count {
+        n = put_frame(out, n, frames[i]);
         i += 1;
     }
     n
@@ -65,8 +79,8 @@ fn put_frames(out: &mut [u32], from: usize, frames: [LaxKeyframe; 64], count: u3
 
 // Its head, then its frames. came is the track that the call was given.
 pub fn put_track(out: &mut [u32], from: usize, came: LaxTrack, t: Track) -> usize {
-    let places = came.frames;
-    let w = track_words(places, t);
+    let behind = came.frames;
+    let w = track_words(behind, t);
     let mut n = put(out, from, w.count);
     n = put_float(out, n, w.elapsed);
     n = put(out, n, w.looping.mode);
@@ -74,7 +88,7 @@ pub fn put_track(out: &mut [u32], from: usize, came: LaxTrack, t: Track) -> usiz
     n = put(out, n, w.loop_count);
     n = put(out, n, w.complete);
     let frames = w.frames;
-    put_frames(out, n, frames, w.count)
+    put_frames(out, n, frames, places(w.count))
 }
 
 // Whether the track is the one that came.
