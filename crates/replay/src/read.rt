@@ -54,7 +54,7 @@ pub fn next(fd: i32, words: &mut [u32; 1024]) -> Entry
     if 1023 < count {
         return cut();
     }
-    let mut bytes = [0u8; 4096];
+    let mut bytes = io::buffer();
     let size = 4 * count;
     if io::read_full(fd, &mut bytes[..size]) != size {
         return cut();

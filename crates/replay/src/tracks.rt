@@ -9,13 +9,12 @@ use crate::given::easing_at;
 use crate::given::loop_at;
 use crate::handed::is_same_track;
 use crate::handed::put_track;
-use crate::lists::MARK;
 use crate::lists::count_word;
 use crate::lists::floats_at;
 use crate::lists::length_at;
+use crate::lists::marks;
 use crate::lists::put_floats;
 use crate::word::float_at;
-use crate::word::float_of;
 use crate::word::put;
 use keyframe::Changed;
 use keyframe::Completion;
@@ -86,12 +85,12 @@ fn values_at(t: Track, words: &[u32], out: &mut [u32]) -> usize {
     let length = length_at(words, 0);
     let room = length_at(words, 1);
     let times = floats_at(words, 2);
-    let mut values = [float_of(MARK); 128];
+    let mut values = marks();
     let mut number: u32 = 0;
     let filled = t.fill_values(&times[..length], &mut values[..room], &mut number);
     let mut n = put(out, 0, number);
     n = put(out, n, count_word(filled));
-    put_floats(out, n, &values[..room])
+    put_floats(out, n, &values, room)
 }
 
 fn reads(call: u32, t: Track, words: &[u32], out: &mut [u32]) -> usize {

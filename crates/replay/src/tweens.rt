@@ -6,14 +6,14 @@ use crate::answers::put_unknown;
 use crate::answers::put_value;
 use crate::handed::is_same_tween;
 use crate::handed::put_tween;
-use crate::lists::MARK;
 use crate::lists::count_word;
 use crate::lists::floats_at;
 use crate::lists::length_at;
+use crate::lists::mark_words;
+use crate::lists::marks;
 use crate::lists::put_floats;
 use crate::lists::put_words;
 use crate::word::float_at;
-use crate::word::float_of;
 use crate::word::put;
 use crate::word::put_float;
 use steps::Outcome;
@@ -104,8 +104,8 @@ fn run(t: Tween, words: &[u32], out: &mut [u32]) -> usize {
     let values_length = length_at(words, 1);
     let folds_length = length_at(words, 2);
     let steps = floats_at(words, 3);
-    let mut values = [float_of(MARK); 128];
-    let mut folds = [MARK; 128];
+    let mut values = marks();
+    let mut folds = mark_words();
     let a = run_steps(
         t,
         &steps[..length],
@@ -113,8 +113,8 @@ fn run(t: Tween, words: &[u32], out: &mut [u32]) -> usize {
         &mut folds[..folds_length],
     );
     let mut n = put_run(out, t, a);
-    n = put_floats(out, n, &values[..values_length]);
-    put_words(out, n, &folds[..folds_length])
+    n = put_floats(out, n, &values, values_length);
+    put_words(out, n, &folds, folds_length)
 }
 
 fn known(call: u32, t: Tween, words: &[u32], out: &mut [u32]) -> usize {

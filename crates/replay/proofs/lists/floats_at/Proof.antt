@@ -1,9 +1,8 @@
--- `floats_at` is safe and ends: the measure is the places that are left. Assumes nothing.
+-- `floats_at` meets its contract: the measure is the places that are left. Assumes nothing.
 use Prim.Native.Nat.{_≤_, _-_}
 use mathlib.Core.Path.{_≡_}
-use native.Mathlib.Omega.{arith}
 use borrow.Author.Needs.{needs}
-use lib.ListN.{length, length-set}
+use lib.ListN.{length}
 use Rattle.replay.proofs.lists.floats_at.Statement.{statement}
 use Rattle.replay.proofs.lists.floats_at.Tie as tie
 

@@ -1,17 +1,16 @@
 -- `put_floats` is safe and ends: the measure is the floats that are left. Assumes nothing.
 use Prim.Native.Nat.{_≤_, _-_}
 use mathlib.Core.Path.{_≡_}
-use native.Mathlib.Omega.{arith}
 use borrow.Author.Needs.{needs}
-use lib.ListN.{length, length-set}
+use lib.ListN.{length}
 use Rattle.replay.proofs.lists.put_floats.Statement.{statement}
 use Rattle.replay.proofs.lists.put_floats.Tie as tie
 
 abbrev Inv-loop : tie.InvT-loop
-Inv-loop out₀ from list n₀ i₀ out n i = (i ≤ length list) × (length out ≡ length out₀)
+Inv-loop out₀ from list count n₀ i₀ out n i = (i ≤ count) × (length out ≡ length out₀)
 
 abbrev μ-loop : tie.MeasureT-loop
-μ-loop out₀ from list n₀ i₀ out n i = length list - i
+μ-loop out₀ from list count n₀ i₀ out n i = count - i
 
 loop-holds : tie.Need-loop-holds Inv-loop μ-loop
 loop-holds c = search needs
@@ -19,8 +18,8 @@ loop-holds c = search needs
 mul-put-float : tie.Need-mul-put-float Inv-loop μ-loop
 mul-put-float c = search needs
 
-shared-slice-read-put-float : tie.Need-shared-slice-read-put-float Inv-loop μ-loop
-shared-slice-read-put-float c = search needs
+element-copy-out-put-float : tie.Need-element-copy-out-put-float Inv-loop μ-loop
+element-copy-out-put-float c = search needs
 
 put-float-requires : tie.Need-put-float-requires Inv-loop μ-loop
 put-float-requires c κs = search needs
@@ -48,7 +47,7 @@ put-floats-spec =
     μ-loop
     loop-holds
     mul-put-float
-    shared-slice-read-put-float
+    element-copy-out-put-float
     put-float-requires
     add-i
     loop-less

@@ -1,17 +1,16 @@
 -- `put_words` is safe and ends: the measure is the words that are left. Assumes nothing.
 use Prim.Native.Nat.{_≤_, _-_}
 use mathlib.Core.Path.{_≡_}
-use native.Mathlib.Omega.{arith}
 use borrow.Author.Needs.{needs}
-use lib.ListN.{length, length-set}
+use lib.ListN.{length}
 use Rattle.replay.proofs.lists.put_words.Statement.{statement}
 use Rattle.replay.proofs.lists.put_words.Tie as tie
 
 abbrev Inv-loop : tie.InvT-loop
-Inv-loop out₀ from list n₀ i₀ out n i = (i ≤ length list) × (length out ≡ length out₀)
+Inv-loop out₀ from list count n₀ i₀ out n i = (i ≤ count) × (length out ≡ length out₀)
 
 abbrev μ-loop : tie.MeasureT-loop
-μ-loop out₀ from list n₀ i₀ out n i = length list - i
+μ-loop out₀ from list count n₀ i₀ out n i = count - i
 
 loop-holds : tie.Need-loop-holds Inv-loop μ-loop
 loop-holds c = search needs
@@ -19,8 +18,8 @@ loop-holds c = search needs
 mul-put : tie.Need-mul-put Inv-loop μ-loop
 mul-put c = search needs
 
-shared-slice-read-put : tie.Need-shared-slice-read-put Inv-loop μ-loop
-shared-slice-read-put c = search needs
+element-copy-out-put : tie.Need-element-copy-out-put Inv-loop μ-loop
+element-copy-out-put c = search needs
 
 put-requires : tie.Need-put-requires Inv-loop μ-loop
 put-requires c κs = search needs
@@ -48,7 +47,7 @@ put-words-spec =
     μ-loop
     loop-holds
     mul-put
-    shared-slice-read-put
+    element-copy-out-put
     put-requires
     add-i
     loop-less

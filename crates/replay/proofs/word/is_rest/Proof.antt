@@ -1,73 +1,32 @@
+-- `is_rest` meets its contract. The invariant: the first i words agree. The measure is the words that are left. Assumes nothing.
+use Prim.Native.Nat.{_+_, _-_, _≤_}
+use mathlib.Core.Bool.{false≢true}
+use mathlib.Core.Path.{_≡_, refl}
+use native.Mathlib.Omega.{arith}
+use borrow.Author.Needs.{needs}
+use lib.ListN.{length, take, drop}
+use Rattle.replay.proofs.Fronts.{one-more, all-same}
 use Rattle.replay.proofs.word.is_rest.Statement.{statement}
 use Rattle.replay.proofs.word.is_rest.Tie as tie
-use Rattle.replay.proofs.word.is_rest.Reads as reads
-use Rattle.replay.proofs.word.is_rest.Lts as lts
 
 abbrev Inv-loop : tie.InvT-loop
-Inv-loop words from out n i₀ i = ?
+Inv-loop words from out n i₀ i = (i ≤ n) × (length words ≡ from + n) × (n ≤ length out) × (take i (drop from words) ≡ take i out)
 
 abbrev μ-loop : tie.MeasureT-loop
-μ-loop words from out n i₀ i = ?
+μ-loop words from out n i₀ i = n - i
 
--- src/word.rt:61:9
-returns : tie.Need-returns Inv-loop μ-loop
-returns c = ?
-
--- src/word.rt:63:8
-sub-if2 : tie.Need-sub-if2 Inv-loop μ-loop
-sub-if2 c = ?
-
--- src/word.rt:64:9
-returns-2 : tie.Need-returns-2 Inv-loop μ-loop
-returns-2 c = ?
-
--- src/word.rt:67:9
-returns-3 : tie.Need-returns-3 Inv-loop μ-loop
-returns-3 c = ?
-
--- src/word.rt:70:5
-loop-holds : tie.Need-loop-holds Inv-loop μ-loop
-loop-holds c = ?
-
--- src/word.rt:71:18
-add-if4 : tie.Need-add-if4 Inv-loop μ-loop
-add-if4 c = ?
-
--- src/word.rt:71:12
-mul-if4 : tie.Need-mul-if4 Inv-loop μ-loop
-mul-if4 c = ?
-
--- src/word.rt:71:12
-shared-slice-read-if4 : tie.Need-shared-slice-read-if4 Inv-loop μ-loop
-shared-slice-read-if4 c = ?
-
--- src/word.rt:71:31
-mul-if4-2 : tie.Need-mul-if4-2 Inv-loop μ-loop
-mul-if4-2 c = ?
-
--- src/word.rt:71:31
-shared-slice-read-if4-2 : tie.Need-shared-slice-read-if4-2 Inv-loop μ-loop
-shared-slice-read-if4-2 c = ?
-
--- src/word.rt:72:13
-returns-4 : tie.Need-returns-4 Inv-loop μ-loop
-returns-4 c = ?
-
--- src/word.rt:74:9
-add-i : tie.Need-add-i Inv-loop μ-loop
-add-i c = ?
-
--- src/word.rt:70:5
-loop-less : tie.Need-loop-less Inv-loop μ-loop
-loop-less c = ?
-
--- src/word.rt:70:5
 loop-again : tie.Need-loop-again Inv-loop μ-loop
-loop-again c = ?
+loop-again c =
+    let s = c .before .before .before .before in
+    let b = s .before .before .before .before .args in
+    (omega arith, s .loop .inv .1, s .loop .inv .2, one-more (b .words .now) (b .out .now) (b .from) (b .n) (s .loop .inv .1) (s .loop .inv .2) (s .loop .i) (omega arith) (c .if4 .left) (s .loop .inv .3))
 
--- src/word.rt:57:1
 returns-5 : tie.Need-returns-5 Inv-loop μ-loop
-returns-5 c = ?
+returns-5 c h =
+    let s = c .before in
+    let b = s .before .before .before .before .args in
+    let e : s .loop .i ≡ b .n = omega arith in
+    all-same (b .words .now) (b .out .now) (b .from) (b .n) (s .loop .inv .1) (s .loop .inv .2) (rw e at (s .loop .inv .3))
 
 pub is-rest-spec : {M : Type 1} → statement M
 is-rest-spec =
@@ -75,18 +34,18 @@ is-rest-spec =
     (tie.spec
     Inv-loop
     μ-loop
-    returns
-    sub-if2
-    returns-2
-    returns-3
-    loop-holds
-    add-if4
-    mul-if4
-    shared-slice-read-if4
-    mul-if4-2
-    shared-slice-read-if4-2
-    returns-4
-    add-i
-    loop-less
+    (λ c h. absurd (false≢true h))
+    (λ c. search needs)
+    (λ c h. absurd (false≢true h))
+    (λ c h. absurd (false≢true h))
+    (λ c. (omega arith, omega arith, omega arith, refl))
+    (λ c. search needs)
+    (λ c. search needs)
+    (λ c. search needs)
+    (λ c. search needs)
+    (λ c. search needs)
+    (λ c h. absurd (false≢true h))
+    (λ c. search needs)
+    (λ c. search needs)
     loop-again
     returns-5)
