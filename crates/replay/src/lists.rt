@@ -70,5 +70,9 @@ pub fn put_words(out: &mut [u32], from: usize, list: &[u32; 128], count: usize) 
 }
 
 pub fn count_word(n: usize) -> u32 {
-    if n < 0xffff_ffff { n as u32 } else { 0xffff_ffff }
+    if n < 0xffff_ffff {
+        n as u32
+    } else {
+        0xffff_ffff
+    }
 }

@@ -51,7 +51,10 @@ fn tracks(counts: [u64; 48]) {
 
 pub fn all(walk: Walk) {
     if !walk.is_whole {
-        line(b"the list is cut or cannot be read behind case ", walk.cases);
+        line(
+            b"the list is cut or cannot be read behind case ",
+            walk.cases,
+        );
         return;
     }
     let counts = walk.counts;

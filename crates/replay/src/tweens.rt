@@ -137,11 +137,7 @@ fn known(call: u32, t: Tween, words: &[u32], out: &mut [u32]) -> usize {
 // The answer goes into the front of out. Answers how many words it has.
 pub fn answer(call: u32, w: LaxTween, words: &[u32], out: &mut [u32]) -> usize {
     if call == 17 {
-        return put_tween(
-            out,
-            0,
-            Tween::new(float_at(words, 0), float_at(words, 1)),
-        );
+        return put_tween(out, 0, Tween::new(float_at(words, 0), float_at(words, 1)));
     }
     match tween_of(w) {
         TweenRead::Known(t) => known(call, t, words, out),

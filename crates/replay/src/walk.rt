@@ -1,4 +1,5 @@
 // The list, gone through entry by entry.
+ghost use Prim.Native.Nat.{_<_};
 use crate::easings;
 use crate::given::track_in;
 use crate::given::tween_in;
@@ -112,14 +113,19 @@ fn took(walk: Walk, call: u32, words: &[u32]) -> Walk {
     }
 }
 
+fn took_front(walk: Walk, call: u32, list: [u32; 1024], count: usize) -> Walk
+    requires { ⌜ count < 1024 ⌝ }
+{
+    took(walk, call, &list[..count])
+}
+
 fn step(walk: Walk, fd: i32) -> Walk {
     let mut words = [0u32; 1024];
     let entry = next(fd, &mut words);
     if !entry.is_whole {
         return stopped(walk, false);
     }
-    let count = entry.count;
-    took(walk, entry.call, &words[..count])
+    took_front(walk, entry.call, words, entry.count)
 }
 
 // The list ends in an entry of its own; the count of turns is more than it has.

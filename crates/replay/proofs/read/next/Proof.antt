@@ -51,7 +51,7 @@ array-borrow-prefix-bytes : tie.Need-array-borrow-prefix-bytes
 array-borrow-prefix-bytes c = search needs
 
 slice-aggregate-read-full-2 : tie.Need-slice-aggregate-read-full-2
-slice-aggregate-read-full-2 c = front _ _ (omega (arith, c .buffer .ensures))
+slice-aggregate-read-full-2 c = front _ _ (omega (arith, c .before .buffer .ensures))
 
 read-full-requires-2 : tie.Need-read-full-requires-2
 read-full-requires-2 c κs = search needs

@@ -1,47 +1,37 @@
+-- `all` is safe and ends: the measure is the turns that are left. Assumes nothing.
+use borrow.Author.Needs.{needs}
 use Rattle.replay.proofs.walk.all.Statement.{statement}
 use Rattle.replay.proofs.walk.all.Tie as tie
-use Rattle.replay.proofs.walk.all.Reads as reads
-use Rattle.replay.proofs.walk.all.Lts as lts
-use Rattle.replay.proofs.walk.begin.Reads as begin-reads
-use Rattle.replay.proofs.walk.step.Reads as step-reads
 
 abbrev Inv-loop : tie.InvT-loop
-Inv-loop fd walk₀ turns₀ walk turns = ?
+Inv-loop fd walk₀ turns₀ walk turns = Unit {0}
 
 abbrev μ-loop : tie.MeasureT-loop
-μ-loop fd walk₀ turns₀ walk turns = ?
+μ-loop fd walk₀ turns₀ walk turns = turns
 
--- src/walk.rt:127:9
 begin-requires : tie.Need-begin-requires Inv-loop μ-loop
-begin-requires c κs = ?
+begin-requires c κs = search needs
 
--- src/walk.rt:129:5
 loop-holds : tie.Need-loop-holds Inv-loop μ-loop
-loop-holds c = ?
+loop-holds c = search needs
 
--- src/walk.rt:131:13
 returns : tie.Need-returns Inv-loop μ-loop
-returns c = ?
+returns c = search needs
 
--- src/walk.rt:133:9
 step-requires : tie.Need-step-requires Inv-loop μ-loop
-step-requires c κs = ?
+step-requires c κs = search needs
 
--- src/walk.rt:134:9
 sub-turns : tie.Need-sub-turns Inv-loop μ-loop
-sub-turns c = ?
+sub-turns c = search needs
 
--- src/walk.rt:129:5
 loop-less : tie.Need-loop-less Inv-loop μ-loop
-loop-less c = ?
+loop-less c = search needs
 
--- src/walk.rt:129:5
 loop-again : tie.Need-loop-again Inv-loop μ-loop
-loop-again c = ?
+loop-again c = search needs
 
--- src/walk.rt:126:1
 returns-2 : tie.Need-returns-2 Inv-loop μ-loop
-returns-2 c = ?
+returns-2 c = search needs
 
 pub all-spec : {M : Type 1} → statement M
 all-spec =
