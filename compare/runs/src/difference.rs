@@ -79,18 +79,12 @@ pub fn must(what: &str, holds: bool) -> Result<(), Difference> {
     if holds { Ok(()) } else { differ(what.into(), "no".into(), "yes".into()) }
 }
 
-/// What a call answered, held against the refusal that came of the rules, or the Rust's answer.
-pub fn answered<T: Words>(
-    call: &str,
-    number: u32,
-    ours: T,
-    refused: T,
-    accepted: impl FnOnce() -> T,
-) -> Result<T, Difference> {
-    if number == 0 {
-        same(call, &ours, &accepted())?
+/// What a call answered. The number is the first word of either.
+pub fn answered<T: Words>(call: &str, ours: T, expected: T) -> Result<T, Difference> {
+    if expected.words()[0] == 0 {
+        same(call, &ours, &expected)?
     } else {
-        same_bits(call, &ours, &refused)?
+        same_bits(call, &ours, &expected)?
     }
     Ok(ours)
 }

@@ -77,7 +77,7 @@ fn easings(runner: &mut Runner) -> Tried<()> {
 }
 
 /// 10 to 20 in 2 s, at its middle, in its second pass of three.
-fn plain_tween(mode: u32, state: u32) -> LaxTween {
+pub fn plain_tween(mode: u32, state: u32) -> LaxTween {
     LaxTween {
         start: 10.0,
         end: 20.0,
@@ -94,7 +94,7 @@ fn plain_tween(mode: u32, state: u32) -> LaxTween {
     }
 }
 
-fn tween_calls() -> Vec<TweenCall> {
+pub fn tween_calls() -> Vec<TweenCall> {
     let mut calls = TWEEN_READS.to_vec();
     calls.extend([TweenCall::Reset, TweenCall::Reverse, TweenCall::Pause, TweenCall::Resume]);
     calls.extend([0.25, f32::NAN].map(TweenCall::Seek));
@@ -119,7 +119,7 @@ fn tweens(plain: &LaxTween, runner: &mut Runner) -> Tried<()> {
 }
 
 /// Frames at 1 s, 1.5 s, 2 s and so on.
-fn plain_track(mode: u32, count: u32) -> LaxTrack {
+pub fn plain_track(mode: u32, count: u32) -> LaxTrack {
     let mut t = LaxTrack {
         count,
         elapsed: 1.25,
@@ -134,7 +134,7 @@ fn plain_track(mode: u32, count: u32) -> LaxTrack {
     t
 }
 
-fn track_calls() -> Vec<TrackCall> {
+pub fn track_calls() -> Vec<TrackCall> {
     let mut calls = TRACK_READS.to_vec();
     let eased = |kind| LaxEasing { kind, a: 0.5, count: 4, ..LaxEasing::default() };
     calls.extend([TrackCall::Push(1.5, 5.0), TrackCall::Push(0.25, 5.0), TrackCall::Push(-1.0, 5.0)]);

@@ -6,6 +6,7 @@ mod exhaustive;
 mod ffi;
 mod headings;
 mod input;
+mod list;
 mod make;
 mod meaning;
 mod power;
@@ -24,7 +25,8 @@ use std::time::{SystemTime, UNIX_EPOCH};
 const USAGE: &str = "compare short
 compare random [--seed S] [--count CASES]
 compare exhaustive [--kind KIND]
-compare power [--only PLACE]";
+compare power [--only PLACE]
+compare list FILE";
 
 /// The cases of the short run, and of the random run where no count is given.
 const SHORT: u64 = 400_000;
@@ -40,6 +42,7 @@ fn main() -> ExitCode {
         }
         Some("exhaustive") => Some(exhaustive::run(text_option(&arguments, "--kind"))),
         Some("power") => Some(power::run(option(&arguments, "--only"))),
+        Some("list") => arguments.get(1).map(|file| list::run(file)),
         _ => None,
     };
     match agreed {

@@ -15,6 +15,10 @@ pub type Heading = (Section, &'static str);
 
 const NUMBERS: [u32; 14] = [0, 1, 2, 3, 4, 5, 6, 7, 8, 9, 10, 11, 12, 100];
 
+fn column(number: u32) -> usize {
+    NUMBERS.iter().position(|own| *own == number).expect("a number of the rules")
+}
+
 #[derive(Default)]
 pub struct Tally {
     rows: BTreeMap<Heading, [u64; NUMBERS.len()]>,
@@ -23,11 +27,15 @@ pub struct Tally {
 
 impl Tally {
     pub fn count(&mut self, headings: &[Heading], number: u32) {
-        let column = NUMBERS.iter().position(|own| *own == number).expect("a number of the rules");
+        let column = column(number);
         for heading in headings {
             self.rows.entry(*heading).or_default()[column] += 1;
         }
         self.inputs += 1;
+    }
+
+    pub fn counted(&self, heading: Heading, number: u32) -> u64 {
+        self.rows.get(&heading).map_or(0, |row| row[column(number)])
     }
 
     pub fn add(&mut self, other: Tally) {

@@ -27,46 +27,43 @@ impl EasingCall {
 
     /// The number of the answer, where it is the expected one.
     pub fn check(&self) -> Result<u32, Difference> {
-        match self {
-            Apply(e, t) => self.apply(e, *t),
-            Eq(x, y) => self.eq(x, y),
-            IsSupplied(e) => self.is_supplied(e),
-            Named(place) => self.named(*place),
-        }
+        let name = self.name();
+        Ok(match self {
+            Apply(e, t) => answered(name, lax_easing_apply(*e, *t), applied(e, *t))?.number,
+            Eq(x, y) => answered(name, lax_easing_eq(*x, *y), equal(x, y))?.number,
+            IsSupplied(e) => answered(name, lax_easing_is_supplied(*e), supplied(e))?.number,
+            Named(place) => answered(name, lax_easing_named(*place), named(*place))?.number,
+        })
     }
+}
 
-    fn apply(&self, e: &LaxEasing, t: f32) -> Result<u32, Difference> {
-        let number = rules::apply_refused(e, t);
-        let refused = LaxValue { number, value: 0.0 };
-        let accepted = || LaxValue { number, value: meaning::easing(e).apply(t) };
-        answered(self.name(), number, lax_easing_apply(*e, t), refused, accepted)?;
-        Ok(number)
+pub fn applied(e: &LaxEasing, t: f32) -> LaxValue {
+    match rules::apply_refused(e, t) {
+        0 => LaxValue { number: 0, value: meaning::easing(e).apply(t) },
+        number => LaxValue { number, value: 0.0 },
     }
+}
 
-    fn eq(&self, x: &LaxEasing, y: &LaxEasing) -> Result<u32, Difference> {
-        let number = rules::eq_refused(x, y);
-        let refused = LaxFlag { number, flag: 0 };
-        let accepted = || LaxFlag { number, flag: (meaning::easing(x) == meaning::easing(y)).into() };
-        answered(self.name(), number, lax_easing_eq(*x, *y), refused, accepted)?;
-        Ok(number)
+pub fn equal(x: &LaxEasing, y: &LaxEasing) -> LaxFlag {
+    match rules::eq_refused(x, y) {
+        0 => LaxFlag { number: 0, flag: (meaning::easing(x) == meaning::easing(y)).into() },
+        number => LaxFlag { number, flag: 0 },
     }
+}
 
-    fn is_supplied(&self, e: &LaxEasing) -> Result<u32, Difference> {
-        let number = rules::is_supplied_refused(e);
-        let refused = LaxFlag { number, flag: 0 };
-        let accepted = || LaxFlag { number, flag: (!rules::is_one_of_twelve(e)).into() };
-        answered(self.name(), number, lax_easing_is_supplied(*e), refused, accepted)?;
-        Ok(number)
+pub fn supplied(e: &LaxEasing) -> LaxFlag {
+    match rules::is_supplied_refused(e) {
+        0 => LaxFlag { number: 0, flag: (!rules::is_one_of_twelve(e)).into() },
+        number => LaxFlag { number, flag: 0 },
     }
+}
 
-    fn named(&self, place: u32) -> Result<u32, Difference> {
-        let number = rules::named_refused(place);
-        let refused = LaxEasingAnswer { number, easing: LaxEasing::default() };
-        let accepted = || {
+pub fn named(place: u32) -> LaxEasingAnswer {
+    match rules::named_refused(place) {
+        0 => {
             let easing = meaning::easing_words(&Easing::all_named()[place as usize]);
-            LaxEasingAnswer { number, easing }
-        };
-        answered(self.name(), number, lax_easing_named(place), refused, accepted)?;
-        Ok(number)
+            LaxEasingAnswer { number: 0, easing }
+        }
+        number => LaxEasingAnswer { number, easing: LaxEasing::default() },
     }
 }

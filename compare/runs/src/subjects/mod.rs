@@ -1,4 +1,4 @@
-//! Each call: ours and the Rust's, side by side.
+//! Each call: ours, and beside it what the rules and the Rust say.
 mod easing;
 mod track;
 mod tween;

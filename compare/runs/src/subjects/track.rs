@@ -53,17 +53,22 @@ impl TrackCall {
     }
 
     pub fn check(&self, t: &LaxTrack) -> Checked {
+        let name = self.name();
         match self {
-            Push(..) | PushEased(..) | Looping(_) | Reset | SeekTo(_) => self.change(t),
-            Update(step) => self.update(t, *step),
-            ValueAt(secs) => self.sample(t, lax_track_value_at(*t, *secs), |track| track.value_at(*secs)),
-            Value => self.sample(t, lax_track_value(*t), KeyframeTrack::value),
+            Push(..) | PushEased(..) | Looping(_) | Reset | SeekTo(_) => {
+                let ours = answered(name, self.change(t), self.changed(t))?;
+                self.kept(ours.number, t, ours.track)
+            }
+            Update(step) => {
+                let ours = answered(name, lax_track_update(*t, *step), self.stepped(t, *step))?;
+                self.kept(ours.number, t, ours.track)
+            }
             ValuesAt { times, out } => self.samples(t, times, *out),
-            ActiveTime => self.read(t, lax_track_active_time(*t), KeyframeTrack::time_in_pass),
-            Duration => self.read(t, lax_track_duration(*t), KeyframeTrack::duration),
-            PlaybackDuration => self.read(t, lax_track_playback_duration(*t), Playable::duration),
-            Progress => self.read(t, lax_track_progress(*t), KeyframeTrack::progress),
-            IsComplete => self.is_complete(t),
+            IsComplete => {
+                let ours = answered(name, lax_track_is_complete(*t), self.completion(t))?;
+                Ok((ours.number, None))
+            }
+            _ => answered(name, self.value(t), self.read(t)).map(|ours| (ours.number, None)),
         }
     }
 
@@ -82,7 +87,7 @@ impl TrackCall {
         }
     }
 
-    fn changed(&self, t: &LaxTrack) -> LaxTrackChanged {
+    fn change(&self, t: &LaxTrack) -> LaxTrackChanged {
         match self {
             Push(time, value) => lax_track_push(*t, *time, *value),
             PushEased(time, value, easing) => lax_track_push_eased(*t, *time, *value, *easing),
@@ -106,73 +111,70 @@ impl TrackCall {
         track
     }
 
-    fn change(&self, t: &LaxTrack) -> Checked {
-        let number = self.refused(t);
-        let accepted = || LaxTrackChanged { number, track: meaning::track_words(&self.changed_rust(t), t) };
-        let refused = LaxTrackChanged { number, track: *t };
-        let ours = answered(self.name(), number, self.changed(t), refused, accepted)?;
-        self.kept(number, t, &ours.track)?;
-        Ok((number, Some(Box::new(ours.track))))
+    /// Of the calls that hand the track back and nothing else.
+    pub fn changed(&self, t: &LaxTrack) -> LaxTrackChanged {
+        match self.refused(t) {
+            0 => LaxTrackChanged { number: 0, track: meaning::track_words(&self.changed_rust(t), t) },
+            number => LaxTrackChanged { number, track: *t },
+        }
     }
 
-    fn update(&self, t: &LaxTrack, step: f32) -> Checked {
+    pub fn stepped(&self, t: &LaxTrack, step: f32) -> LaxTrackUpdated {
         let number = self.refused(t);
-        let accepted = || {
-            let mut track = meaning::track(t);
-            let running = track.update(step).into();
-            LaxTrackUpdated { number, running, track: meaning::track_words(&track, t) }
-        };
-        let refused = LaxTrackUpdated { number, running: 0, track: *t };
-        let ours = answered(self.name(), number, lax_track_update(*t, step), refused, accepted)?;
-        self.kept(number, t, &ours.track)?;
-        Ok((number, Some(Box::new(ours.track))))
+        if number != 0 {
+            return LaxTrackUpdated { number, running: 0, track: *t };
+        }
+        let mut track = meaning::track(t);
+        let running = track.update(step).into();
+        LaxTrackUpdated { number, running, track: meaning::track_words(&track, t) }
     }
 
     /// An accepted call hands back a track within its limits, so a pushed -0 is stored as +0; the places
     /// behind its frames are those that came, to the bit.
-    fn kept(&self, number: u32, came: &LaxTrack, t: &LaxTrack) -> Result<(), Difference> {
-        let kept = number != 0 || !rules::track_breaks(t);
+    fn kept(&self, number: u32, came: &LaxTrack, t: LaxTrack) -> Checked {
+        let kept = number != 0 || !rules::track_breaks(&t);
         must(&format!("{}: within limits afterwards", self.name()), kept)?;
-        let behind = 8 * rules::frames(t).len()..8 * PLACES;
+        let behind = 8 * rules::frames(&t).len()..8 * PLACES;
         let kept = t.words()[behind.clone()] == came.words()[behind];
-        must(&format!("{}: places behind the frames kept", self.name()), kept)
+        must(&format!("{}: places behind the frames kept", self.name()), kept)?;
+        Ok((number, Some(Box::new(t))))
     }
 
-    fn read(&self, t: &LaxTrack, ours: LaxValue, read: fn(&KeyframeTrack<f32>) -> f32) -> Checked {
-        let number = self.refused(t);
-        let refused = LaxValue { number, value: 0.0 };
-        answered(self.name(), number, ours, refused, || LaxValue {
-            number,
-            value: read(&meaning::track(t)),
-        })?;
-        Ok((number, None))
+    fn value(&self, t: &LaxTrack) -> LaxValue {
+        match self {
+            ValueAt(secs) => lax_track_value_at(*t, *secs),
+            Value => lax_track_value(*t),
+            ActiveTime => lax_track_active_time(*t),
+            Duration => lax_track_duration(*t),
+            PlaybackDuration => lax_track_playback_duration(*t),
+            _ => lax_track_progress(*t),
+        }
     }
 
-    fn sample(
-        &self,
-        t: &LaxTrack,
-        ours: LaxValue,
-        sample: impl FnOnce(&KeyframeTrack<f32>) -> Option<f32>,
-    ) -> Checked {
+    /// Of the calls that answer one value.
+    pub fn read(&self, t: &LaxTrack) -> LaxValue {
         let number = self.refused(t);
-        let refused = LaxValue { number, value: 0.0 };
-        let accepted = || LaxValue { number, value: sample(&meaning::track(t)).expect("there are frames") };
-        answered(self.name(), number, ours, refused, accepted)?;
-        Ok((number, None))
+        if number != 0 {
+            return LaxValue { number, value: 0.0 };
+        }
+        let track = meaning::track(t);
+        let value = match self {
+            ValueAt(secs) => track.value_at(*secs).expect("there are frames"),
+            Value => track.value().expect("there are frames"),
+            ActiveTime => track.time_in_pass(),
+            Duration => track.duration(),
+            PlaybackDuration => Playable::duration(&track),
+            _ => track.progress(),
+        };
+        LaxValue { number, value }
     }
 
     fn samples(&self, t: &LaxTrack, times: &[f32], out: usize) -> Checked {
-        let number = self.refused(t);
         let mut ours = vec![SENTINEL; out + GUARD];
         let mut expected = ours.clone();
         let lent = times.to_vec();
         let answer = track_values_at(*t, &lent, &mut ours[..out]);
-        let filled = if number == 0 { times.len() } else { 0 };
-        if number == 0 {
-            let track = meaning::track(t);
-            let sampled = times.iter().map(|secs| track.value_at(*secs).expect("there are frames"));
-            expected.iter_mut().zip(sampled).for_each(|(place, value)| *place = value);
-        }
+        let LaxFilled { filled, number } = sampled(t, times, &mut expected[..out]);
         let name = self.name();
         same_count(format!("{name}: number"), answer.number as usize, number as usize)?;
         same_count(format!("{name}: filled"), answer.filled, filled)?;
@@ -181,18 +183,34 @@ impl TrackCall {
         Ok((number, None))
     }
 
-    fn is_complete(&self, t: &LaxTrack) -> Checked {
-        let number = self.refused(t);
-        let accepted = || LaxFlag { number, flag: meaning::track(t).is_complete().into() };
-        answered(self.name(), number, lax_track_is_complete(*t), LaxFlag { number, flag: 0 }, accepted)?;
-        Ok((number, None))
+    pub fn completion(&self, t: &LaxTrack) -> LaxFlag {
+        match self.refused(t) {
+            0 => LaxFlag { number: 0, flag: meaning::track(t).is_complete().into() },
+            number => LaxFlag { number, flag: 0 },
+        }
     }
+}
+
+/// The values at many times.
+pub fn sampled(t: &LaxTrack, times: &[f32], out: &mut [f32]) -> LaxFilled {
+    let number = rules::samples_refused(t, times.len(), out.len());
+    let filled = if number == 0 { times.len() } else { 0 };
+    if number == 0 {
+        let track = meaning::track(t);
+        let sampled = times.iter().map(|secs| track.value_at(*secs).expect("there are frames"));
+        out.iter_mut().zip(sampled).for_each(|(place, value)| *place = value);
+    }
+    LaxFilled { filled, number }
 }
 
 pub const NEW_TRACK: &str = "track new";
 
+pub fn new_track() -> LaxTrack {
+    meaning::track_words(&KeyframeTrack::new(), &LaxTrack::default())
+}
+
 pub fn check_new_track() -> Result<LaxTrack, Difference> {
     let ours = lax_track_new();
-    same_bits(NEW_TRACK, &ours, &meaning::track_words(&KeyframeTrack::new(), &LaxTrack::default()))?;
+    same_bits(NEW_TRACK, &ours, &new_track())?;
     Ok(ours)
 }

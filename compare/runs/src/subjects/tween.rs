@@ -49,82 +49,85 @@ impl TweenCall {
     }
 
     pub fn check(&self, t: &LaxTween) -> Checked {
+        let name = self.name();
         match self {
-            Value => self.value(t, lax_tween_value(*t), Tween::value),
-            Progress => self.value(t, lax_tween_progress(*t), Tween::progress),
-            EasedProgress => self.value(t, lax_tween_eased_progress(*t), Tween::eased_progress),
-            PlaybackDuration => self.value(t, lax_tween_playback_duration(*t), Playable::duration),
-            Snapshot => self.snapshot(t),
-            Reset => self.change(t, rules::tween_refused(t), lax_tween_reset(*t), Tween::reset),
-            Seek(p) => {
-                self.change(t, rules::seek_refused(t, *p), lax_tween_seek(*t, *p), |tween| tween.seek(*p))
+            Value | Progress | EasedProgress | PlaybackDuration => {
+                answered(name, self.value(t), self.read(t)).map(|answer| (answer.number, *t))
             }
-            Reverse => self.change(t, rules::tween_refused(t), lax_tween_reverse(*t), Tween::reverse),
-            Pause => self.change(t, rules::tween_refused(t), lax_tween_pause(*t), Tween::pause),
-            Resume => self.change(t, rules::tween_refused(t), lax_tween_resume(*t), Tween::resume),
-            Update(step) => self.update(t, *step),
+            Snapshot => answered(name, lax_tween_snapshot(*t), snapped(t)).map(|answer| (answer.number, *t)),
+            Reset | Seek(_) | Reverse | Pause | Resume => {
+                let ours = answered(name, self.change(t), self.changed(t))?;
+                self.kept(ours.number, ours.tween)
+            }
+            Update(step) => {
+                let ours = answered(name, lax_tween_update(*t, *step), updated(t, *step))?;
+                self.kept(ours.number, ours.tween)
+            }
             Run { steps, values, folds } => self.run(t, steps, *values, *folds),
         }
     }
 
-    fn value(&self, t: &LaxTween, ours: LaxValue, read: fn(&Tween<f32>) -> f32) -> Checked {
+    fn value(&self, t: &LaxTween) -> LaxValue {
+        match self {
+            Value => lax_tween_value(*t),
+            Progress => lax_tween_progress(*t),
+            EasedProgress => lax_tween_eased_progress(*t),
+            _ => lax_tween_playback_duration(*t),
+        }
+    }
+
+    /// Of the calls that answer a value.
+    pub fn read(&self, t: &LaxTween) -> LaxValue {
         let number = rules::tween_refused(t);
-        let refused = LaxValue { number, value: 0.0 };
-        answered(self.name(), number, ours, refused, || LaxValue {
-            number,
-            value: read(&meaning::tween(t)),
-        })?;
-        Ok((number, *t))
-    }
-
-    fn snapshot(&self, t: &LaxTween) -> Checked {
-        let number = rules::tween_refused(t);
-        let refused = LaxSnapshot { number, ..LaxSnapshot::default() };
-        let accepted = || {
-            let taken = meaning::tween(t).snapshot();
-            LaxSnapshot {
-                number,
-                elapsed: taken.elapsed,
-                delay_elapsed: taken.delay_elapsed,
-                state: meaning::state_word(&taken.state),
-                loop_count: taken.loop_count,
-                ping_pong_reverse: taken.ping_pong_reverse.into(),
-            }
+        if number != 0 {
+            return LaxValue { number, value: 0.0 };
+        }
+        let tween = meaning::tween(t);
+        let value = match self {
+            Value => tween.value(),
+            Progress => tween.progress(),
+            EasedProgress => tween.eased_progress(),
+            _ => Playable::duration(&tween),
         };
-        answered(self.name(), number, lax_tween_snapshot(*t), refused, accepted)?;
-        Ok((number, *t))
+        LaxValue { number, value }
     }
 
-    fn change(
-        &self,
-        t: &LaxTween,
-        number: u32,
-        ours: LaxChanged,
-        change: impl FnOnce(&mut Tween<f32>),
-    ) -> Checked {
-        let accepted = || {
-            let mut tween = meaning::tween(t);
-            change(&mut tween);
-            LaxChanged { number, tween: meaning::tween_words(&tween) }
+    fn change(&self, t: &LaxTween) -> LaxChanged {
+        match self {
+            Seek(progress) => lax_tween_seek(*t, *progress),
+            Reverse => lax_tween_reverse(*t),
+            Pause => lax_tween_pause(*t),
+            Resume => lax_tween_resume(*t),
+            _ => lax_tween_reset(*t),
+        }
+    }
+
+    /// Of the calls that hand the tween back and nothing else.
+    pub fn changed(&self, t: &LaxTween) -> LaxChanged {
+        let number = match self {
+            Seek(progress) => rules::seek_refused(t, *progress),
+            _ => rules::tween_refused(t),
         };
-        let ours = answered(self.name(), number, ours, LaxChanged { number, tween: *t }, accepted)?;
-        self.kept(number, &ours.tween)?;
-        Ok((number, ours.tween))
-    }
-
-    fn update(&self, t: &LaxTween, step: f32) -> Checked {
-        let number = rules::update_refused(t, step);
-        let refused = LaxUpdated { number, folds: 0, running: 0, tween: *t };
-        let ours = answered(self.name(), number, lax_tween_update(*t, step), refused, || updated(t, step))?;
-        self.kept(number, &ours.tween)?;
-        Ok((number, ours.tween))
+        if number != 0 {
+            return LaxChanged { number, tween: *t };
+        }
+        let mut tween = meaning::tween(t);
+        match self {
+            Seek(progress) => tween.seek(*progress),
+            Reverse => tween.reverse(),
+            Pause => tween.pause(),
+            Resume => tween.resume(),
+            _ => tween.reset(),
+        }
+        LaxChanged { number, tween: meaning::tween_words(&tween) }
     }
 
     /// An accepted call hands back a tween within its limits, unless its loop_count has just passed.
-    fn kept(&self, number: u32, t: &LaxTween) -> Result<(), Difference> {
-        let counted = LaxTween { loop_count: t.loop_count.min(LIMIT as u32), ..*t };
+    fn kept(&self, number: u32, t: LaxTween) -> Checked {
+        let counted = LaxTween { loop_count: t.loop_count.min(LIMIT as u32), ..t };
         let kept = number != 0 || !rules::tween_breaks(&counted);
-        must(&format!("{}: within limits afterwards", self.name()), kept)
+        must(&format!("{}: within limits afterwards", self.name()), kept)?;
+        Ok((number, t))
     }
 
     fn run(&self, t: &LaxTween, steps: &[f32], values: usize, folds: usize) -> Checked {
@@ -149,8 +152,31 @@ impl TweenCall {
     }
 }
 
+pub fn snapped(t: &LaxTween) -> LaxSnapshot {
+    let number = rules::tween_refused(t);
+    if number != 0 {
+        return LaxSnapshot { number, ..LaxSnapshot::default() };
+    }
+    let taken = meaning::tween(t).snapshot();
+    LaxSnapshot {
+        number,
+        elapsed: taken.elapsed,
+        delay_elapsed: taken.delay_elapsed,
+        state: meaning::state_word(&taken.state),
+        loop_count: taken.loop_count,
+        ping_pong_reverse: taken.ping_pong_reverse.into(),
+    }
+}
+
+pub fn updated(t: &LaxTween, step: f32) -> LaxUpdated {
+    match rules::update_refused(t, step) {
+        0 => stepped(t, step),
+        number => LaxUpdated { number, folds: 0, running: 0, tween: *t },
+    }
+}
+
 /// The Rust's update; the folds, which it does not tell, by the rules.
-fn updated(t: &LaxTween, step: f32) -> LaxUpdated {
+fn stepped(t: &LaxTween, step: f32) -> LaxUpdated {
     let mut tween = meaning::tween(t);
     let was_complete = tween.is_complete();
     let running = tween.update(step).into();
@@ -163,18 +189,18 @@ fn updated(t: &LaxTween, step: f32) -> LaxUpdated {
 }
 
 /// A run of steps by the rules, and by the Rust's update and value.
-fn ran(t: &LaxTween, steps: &[f32], values: &mut [f32], folds: &mut [u32]) -> LaxRun {
+pub fn ran(t: &LaxTween, steps: &[f32], values: &mut [f32], folds: &mut [u32]) -> LaxRun {
     let mut run =
         LaxRun { done: 0, number: rules::run_refused(t, steps.len(), values.len(), folds.len()), tween: *t };
     if run.number != 0 {
         return run;
     }
     for (place, step) in steps.iter().enumerate() {
-        run.number = rules::update_refused(&run.tween, *step);
+        let after = updated(&run.tween, *step);
+        run.number = after.number;
         if run.number != 0 {
             break;
         }
-        let after = updated(&run.tween, *step);
         run.number = rules::tween_refused(&after.tween);
         if run.number != 0 {
             break;
@@ -188,10 +214,13 @@ fn ran(t: &LaxTween, steps: &[f32], values: &mut [f32], folds: &mut [u32]) -> La
 }
 
 /// A new tween: one second, Linear, no delay, scale 1, Once. Its ends are not looked at.
+pub fn new_tween(start: f32, end: f32) -> LaxTween {
+    meaning::tween_words(&Tween::of_builder(start, end, 1.0, Easing::Linear, 0.0, 1.0, Loop::Once))
+}
+
 pub fn check_new_tween(start: f32, end: f32) -> Result<LaxTween, Difference> {
-    let expected = Tween::of_builder(start, end, 1.0, Easing::Linear, 0.0, 1.0, Loop::Once);
     let ours = lax_tween_new(start, end);
-    same_bits(NEW_TWEEN, &ours, &meaning::tween_words(&expected))?;
+    same_bits(NEW_TWEEN, &ours, &new_tween(start, end))?;
     Ok(ours)
 }
 

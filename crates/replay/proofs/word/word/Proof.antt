@@ -1,0 +1,15 @@
+-- `word` meets its contract. Assumes nothing.
+use mathlib.Core.Path.{sym}
+use borrow.Author.Needs.{needs}
+use lib.ListN.{List·getD-eq-default}
+use Rattle.replay.proofs.word.word.Statement.{statement}
+use Rattle.replay.proofs.word.word.Tie as tie
+
+pub word-spec : {M : Type 1} → statement M
+word-spec =
+    tie.close
+    (tie.spec
+    (λ c. search needs)
+    (λ c. search needs)
+    (λ c. search needs)
+    (λ c. sym (List·getD-eq-default (c .before .args .words .now) 0 (c .if1 .left))))

@@ -1,0 +1,84 @@
+// Records out of the words of the list.
+ghost use Prim.Native.Nat.{_<_};
+use crate::word::float_at;
+use crate::word::word;
+use words::LaxEasing;
+use words::LaxKeyframe;
+use words::LaxLoop;
+use words::LaxTrack;
+use words::LaxTween;
+
+pub fn easing_at(words: &[u32], at: usize) -> LaxEasing
+    requires { ⌜ at < 1024 ⌝ }
+{
+    LaxEasing {
+        kind: word(words, at),
+        a: float_at(words, at + 1),
+        b: float_at(words, at + 2),
+        c: float_at(words, at + 3),
+        d: float_at(words, at + 4),
+        count: word(words, at + 5),
+    }
+}
+
+pub fn loop_at(words: &[u32], at: usize) -> LaxLoop
+    requires { ⌜ at < 1024 ⌝ }
+{
+    LaxLoop {
+        mode: word(words, at),
+        passes: word(words, at + 1),
+    }
+}
+
+pub fn tween_in(words: &[u32]) -> LaxTween {
+    LaxTween {
+        start: float_at(words, 0),
+        end: float_at(words, 1),
+        duration: float_at(words, 2),
+        easing: easing_at(words, 3),
+        delay: float_at(words, 9),
+        time_scale: float_at(words, 10),
+        looping: loop_at(words, 11),
+        elapsed: float_at(words, 13),
+        delay_elapsed: float_at(words, 14),
+        state: word(words, 15),
+        loop_count: word(words, 16),
+        ping_pong_reverse: word(words, 17),
+    }
+}
+
+fn frame_at(words: &[u32], at: usize) -> LaxKeyframe
+    requires { ⌜ at < 1000 ⌝ }
+{
+    LaxKeyframe {
+        time: float_at(words, at),
+        value: float_at(words, at + 1),
+        easing: easing_at(words, at + 2),
+    }
+}
+
+// Places that the list has no words for are 0.
+fn frames_at(words: &[u32], from: usize) -> [LaxKeyframe; 64]
+    requires { ⌜ from < 100 ⌝ }
+{
+    let mut frames = [frame_at(words, from); 64];
+    let mut i: usize = 1;
+    while i < 64 {
+        frames[i] = frame_at(words, from + 8 * i);
+        i += 1;
+    }
+    frames
+}
+
+// Its head, then its frames.
+pub fn track_in(words: &[u32]) -> LaxTrack {
+    let frames = frames_at(words, 6);
+    LaxTrack {
+        frames,
+        count: word(words, 0),
+        elapsed: float_at(words, 1),
+        looping: loop_at(words, 2),
+        loop_count: word(words, 4),
+        complete: word(words, 5),
+    }
+}
