@@ -1,4 +1,4 @@
-.PHONY: run test lib curves compare exhaustive power bench
+.PHONY: run test lib curves compare exhaustive power list bench
 
 # The worked examples, and a ramp sampled to a table.
 run:
@@ -27,6 +27,10 @@ exhaustive: lib
 # Wrong answers that the short run has to notice.
 power: lib
 	@compare/run power
+
+# The fixed list of the Rust's answers that `replay` compares.
+list: lib
+	@compare/run list crates/replay/data/answers.list
 
 # Times beside the Rust's.
 bench: lib
