@@ -1,7 +1,8 @@
 // The calls of an easing.
-use crate::answers::put_flag;
+use crate::answers::Said;
+use crate::answers::put_said;
 use crate::answers::put_unknown;
-use crate::answers::put_value;
+use crate::answers::said_value;
 use crate::given::easing_at;
 use crate::handed::put_easing;
 use crate::word::float_at;
@@ -14,30 +15,25 @@ use words::EasingRead;
 use words::easing_of;
 use words::easing_words;
 
-fn apply(words: &[u32], out: &mut [u32]) -> usize {
-    match easing_of(easing_at(words, 0)) {
-        EasingRead::Known(e) => put_value(out, e.apply(Progress(float_at(words, 6)))),
+fn equality(a: Equality) -> Said {
+    match a {
+        Equality::Equal(b) => Said::Flag(b),
+        Equality::Refused(refusal) => Said::Refused(refusal),
+    }
+}
+
+fn eq(x: Easing, words: &[u32], out: &mut [u32]) -> usize {
+    match easing_of(easing_at(words, 6)) {
+        EasingRead::Known(y) => put_said(out, equality(x.eq(y))),
         EasingRead::Unknown => put_unknown(out),
     }
 }
 
-fn eq(words: &[u32], out: &mut [u32]) -> usize {
-    let EasingRead::Known(x) = easing_of(easing_at(words, 0)) else {
-        return put_unknown(out);
-    };
-    let EasingRead::Known(y) = easing_of(easing_at(words, 6)) else {
-        return put_unknown(out);
-    };
-    match x.eq(y) {
-        Equality::Equal(b) => put_flag(out, b),
-        Equality::Refused(refusal) => put(out, 0, refusal.number()),
-    }
-}
-
-fn is_supplied(words: &[u32], out: &mut [u32]) -> usize {
-    match easing_of(easing_at(words, 0)) {
-        EasingRead::Known(e) => put_flag(out, e.is_supplied()),
-        EasingRead::Unknown => put_unknown(out),
+fn known(call: u32, e: Easing, words: &[u32], out: &mut [u32]) -> usize {
+    match call {
+        1 => put_said(out, said_value(e.apply(Progress(float_at(words, 6))))),
+        2 => eq(e, words, out),
+        _ => put_said(out, Said::Flag(e.is_supplied())),
     }
 }
 
@@ -54,11 +50,12 @@ fn named(words: &[u32], out: &mut [u32]) -> usize {
 
 // The answer goes into the front of out. Answers how many words it has.
 pub fn answer(call: u32, words: &[u32], out: &mut [u32]) -> usize {
-    match call {
-        1 => apply(words, out),
-        2 => eq(words, out),
-        3 => is_supplied(words, out),
-        _ => named(words, out),
+    if call == 4 {
+        return named(words, out);
+    }
+    match easing_of(easing_at(words, 0)) {
+        EasingRead::Known(e) => known(call, e, words, out),
+        EasingRead::Unknown => put_unknown(out),
     }
 }
 

@@ -1,4 +1,6 @@
 // What the program writes: a line for each call, and how many of the answers differ.
+ghost use Prim.Native.Nat.{_≤_};
+ghost use Rattle.io.specs.Counts.{Counts};
 use crate::walk::Walk;
 use libc::STDOUT_FILENO;
 
@@ -8,45 +10,41 @@ fn line(name: &[u8], n: u64) {
     io::write_all(STDOUT_FILENO, b"\n");
 }
 
-fn easings(counts: [u64; 48]) {
-    line(b"easing apply ", counts[1]);
-    line(b"easing eq ", counts[2]);
-    line(b"easing is_supplied ", counts[3]);
-    line(b"easing named ", counts[4]);
+// Where the first name ends: the place of the first space, or the length.
+fn end_of(names: &[u8]) -> usize
+    ensures { λ r. ⌜ Counts r (now (names .entry)) ⌝ }
+{
+    let mut i: usize = 0;
+    while i < names.len() {
+        if names[i] == b' ' {
+            return i;
+        }
+        i += 1;
+    }
+    i
 }
 
-fn tweens(counts: [u64; 48]) {
-    line(b"tween new ", counts[17]);
-    line(b"tween value ", counts[18]);
-    line(b"tween progress ", counts[19]);
-    line(b"tween eased_progress ", counts[20]);
-    line(b"tween snapshot ", counts[21]);
-    line(b"tween playback_duration ", counts[22]);
-    line(b"tween reset ", counts[23]);
-    line(b"tween seek ", counts[24]);
-    line(b"tween reverse ", counts[25]);
-    line(b"tween pause ", counts[26]);
-    line(b"tween resume ", counts[27]);
-    line(b"tween update ", counts[28]);
-    line(b"tween run ", counts[29]);
+fn named(subject: &[u8], name: &[u8], counts: [u64; 48], place: usize) {
+    if place < 48 {
+        io::write_all(STDOUT_FILENO, subject);
+        io::write_all(STDOUT_FILENO, name);
+        line(b" ", counts[place]);
+    }
 }
 
-fn tracks(counts: [u64; 48]) {
-    line(b"track new ", counts[33]);
-    line(b"track push ", counts[34]);
-    line(b"track push_eased ", counts[35]);
-    line(b"track looping ", counts[36]);
-    line(b"track value_at ", counts[37]);
-    line(b"track value ", counts[38]);
-    line(b"track values_at ", counts[39]);
-    line(b"track update ", counts[40]);
-    line(b"track active_time ", counts[41]);
-    line(b"track duration ", counts[42]);
-    line(b"track playback_duration ", counts[43]);
-    line(b"track progress ", counts[44]);
-    line(b"track is_complete ", counts[45]);
-    line(b"track reset ", counts[46]);
-    line(b"track seek_to ", counts[47]);
+// A line for each name. The first name's count stands at the place first, the others' behind it.
+fn lines(subject: &[u8], names: &[u8], counts: [u64; 48], first: usize)
+    requires { ⌜ first ≤ 48 ⌝ }
+{
+    let mut place = first;
+    let mut at: usize = 0;
+    while at < names.len() {
+        let rest = &names[at..];
+        let n = end_of(rest);
+        named(subject, &rest[..n], counts, place);
+        place += 1;
+        at += n + 1;
+    }
 }
 
 pub fn all(walk: Walk) {
@@ -58,9 +56,19 @@ pub fn all(walk: Walk) {
         return;
     }
     let counts = walk.counts;
-    easings(counts);
-    tweens(counts);
-    tracks(counts);
+    lines(b"easing ", b"apply eq is_supplied named", counts, 1);
+    lines(
+        b"tween ",
+        b"new value progress eased_progress snapshot playback_duration reset seek reverse pause resume update run",
+        counts,
+        17,
+    );
+    lines(
+        b"track ",
+        b"new push push_eased looping value_at value values_at update active_time duration playback_duration progress is_complete reset seek_to",
+        counts,
+        33,
+    );
     line(b"compared ", walk.cases);
     if walk.differences != 0 {
         line(b"the first that differs is case ", walk.first);

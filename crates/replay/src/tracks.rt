@@ -1,10 +1,11 @@
 // The calls of a track.
-use crate::answers::put_flag;
-use crate::answers::put_progress;
+use crate::answers::Said;
 use crate::answers::put_refused;
-use crate::answers::put_seconds;
+use crate::answers::put_said;
 use crate::answers::put_unknown;
-use crate::answers::put_value;
+use crate::answers::said_progress;
+use crate::answers::said_seconds;
+use crate::answers::said_value;
 use crate::given::easing_at;
 use crate::given::loop_at;
 use crate::handed::is_same_track;
@@ -58,10 +59,10 @@ fn put_updated(out: &mut [u32], came: LaxTrack, a: Updated) -> usize {
     }
 }
 
-fn put_completion(out: &mut [u32], a: Completion) -> usize {
+fn completion(a: Completion) -> Said {
     match a {
-        Completion::Complete(b) => put_flag(out, b),
-        Completion::Refused(refusal) => put(out, 0, refusal.number()),
+        Completion::Complete(b) => Said::Flag(b),
+        Completion::Refused(refusal) => Said::Refused(refusal),
     }
 }
 
@@ -93,29 +94,36 @@ fn values_at(t: Track, words: &[u32], out: &mut [u32]) -> usize {
     put_floats(out, n, &values, room)
 }
 
-fn reads(call: u32, t: Track, words: &[u32], out: &mut [u32]) -> usize {
+fn read(call: u32, t: Track, secs: f32) -> Said {
     match call {
-        37 => put_value(out, t.value_at(Seconds(float_at(words, 0)))),
-        38 => put_value(out, t.value()),
-        39 => values_at(t, words, out),
-        41 => put_seconds(out, t.active_time()),
-        42 => put_seconds(out, t.duration()),
-        43 => put_seconds(out, t.playback_duration()),
-        44 => put_progress(out, t.progress()),
-        _ => put_completion(out, t.is_complete()),
+        37 => said_value(t.value_at(Seconds(secs))),
+        38 => said_value(t.value()),
+        41 => said_seconds(t.active_time()),
+        42 => said_seconds(t.duration()),
+        43 => said_seconds(t.playback_duration()),
+        44 => said_progress(t.progress()),
+        _ => completion(t.is_complete()),
+    }
+}
+
+fn change(call: u32, t: Track, x: f32, y: f32) -> Changed {
+    match call {
+        34 => t.push(x, y),
+        46 => t.reset(),
+        _ => t.seek_to(Progress(x)),
     }
 }
 
 fn known(call: u32, w: LaxTrack, words: &[u32], out: &mut [u32]) -> usize {
     let t = track_of(w);
+    let x = float_at(words, 0);
     match call {
-        34 => put_changed(out, w, t.push(float_at(words, 0), float_at(words, 1))),
+        34 | 46 | 47 => put_changed(out, w, change(call, t, x, float_at(words, 1))),
         35 => push_eased(w, words, out),
         36 => looping(w, words, out),
-        40 => put_updated(out, w, t.update(float_at(words, 0))),
-        46 => put_changed(out, w, t.reset()),
-        47 => put_changed(out, w, t.seek_to(Progress(float_at(words, 0)))),
-        _ => reads(call, t, words, out),
+        39 => values_at(t, words, out),
+        40 => put_updated(out, w, t.update(x)),
+        _ => put_said(out, read(call, t, x)),
     }
 }
 

@@ -1,9 +1,11 @@
 // The calls of a tween.
-use crate::answers::put_progress;
+use crate::answers::Said;
 use crate::answers::put_refused;
-use crate::answers::put_seconds;
+use crate::answers::put_said;
 use crate::answers::put_unknown;
-use crate::answers::put_value;
+use crate::answers::said_progress;
+use crate::answers::said_seconds;
+use crate::answers::said_value;
 use crate::handed::is_same_tween;
 use crate::handed::put_tween;
 use crate::lists::count_word;
@@ -117,20 +119,32 @@ fn run(t: Tween, words: &[u32], out: &mut [u32]) -> usize {
     put_words(out, n, &folds, folds_length)
 }
 
+fn read(call: u32, t: Tween) -> Said {
+    match call {
+        18 => said_value(t.value()),
+        19 => said_progress(t.progress()),
+        20 => said_value(t.eased_progress()),
+        _ => said_seconds(t.playback_duration()),
+    }
+}
+
+fn change(call: u32, t: Tween, x: f32) -> Changed {
+    match call {
+        23 => t.reset(),
+        24 => t.seek(Progress(x)),
+        25 => t.reverse(),
+        26 => t.pause(),
+        _ => t.resume(),
+    }
+}
+
 fn known(call: u32, t: Tween, words: &[u32], out: &mut [u32]) -> usize {
     match call {
-        18 => put_value(out, t.value()),
-        19 => put_progress(out, t.progress()),
-        20 => put_value(out, t.eased_progress()),
         21 => put_snapshot(out, t.snapshot()),
-        22 => put_seconds(out, t.playback_duration()),
-        23 => put_changed(out, t, t.reset()),
-        24 => put_changed(out, t, t.seek(Progress(float_at(words, 0)))),
-        25 => put_changed(out, t, t.reverse()),
-        26 => put_changed(out, t, t.pause()),
-        27 => put_changed(out, t, t.resume()),
+        23..=27 => put_changed(out, t, change(call, t, float_at(words, 0))),
         28 => put_updated(out, t, t.update(float_at(words, 0))),
-        _ => run(t, words, out),
+        29 => run(t, words, out),
+        _ => put_said(out, read(call, t)),
     }
 }
 

@@ -18,11 +18,12 @@ pub fn run(file: &str) -> bool {
     for (call, number) in &missing {
         println!("no case of {call} is refused by {number}");
     }
-    match fs::write(file, &bytes) {
+    let written = fs::write(file, &bytes);
+    match &written {
         Ok(()) => println!("{file}: {} cases, {} bytes", list.tally.inputs, bytes.len()),
         Err(error) => println!("{file}: {error}"),
     }
-    missing.is_empty()
+    missing.is_empty() && written.is_ok()
 }
 
 /// Each call with a number that it can be refused by, 0 where it is accepted, and that the list has not.
