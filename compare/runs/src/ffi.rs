@@ -1,4 +1,5 @@
-//! The proved library's calls, as include/laxombiit.h declares them.
+//! The proved library's calls, as include/laxombiit.h declares them. They are declared here again,
+//! since bindings/rust hides the words, and the runs have to see and to hand in every one.
 use crate::words::*;
 
 unsafe extern "C" {
