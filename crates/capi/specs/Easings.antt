@@ -14,26 +14,26 @@ use Rattle.words.specs.Kinds.{easingFrom, easingWords}
 use Rattle.capi.specs.declared.answers.LaxValue.{LaxValue}
 use Rattle.capi.specs.declared.answers.LaxFlag.{LaxFlag}
 use Rattle.capi.specs.declared.answers.LaxEasingAnswer.{LaxEasingAnswer}
-use Rattle.capi.specs.Answers.{noValue, valueWords, noFlag, flagWords, equalityWords}
+use Rattle.capi.specs.Answers.{unknownWord, noValue, valueWords, noFlag, flagWords, equalityWords}
 
 abbrev pub applied : EasingRead → Float → LaxValue
 applied (Known e) t = valueWords (applyOf e t)
-applied Unknown t = noValue 100
+applied Unknown t = noValue unknownWord
 
 unfoldable pub laxEasingApply : LaxEasing → Float → LaxValue
 laxEasingApply w t = applied (easingFrom w) t
 
 abbrev pub compared : EasingRead → EasingRead → LaxFlag
 compared (Known x) (Known y) = equalityWords (eqOf x y)
-compared (Known x) Unknown = noFlag 100
-compared Unknown y = noFlag 100
+compared (Known x) Unknown = noFlag unknownWord
+compared Unknown y = noFlag unknownWord
 
 unfoldable pub laxEasingEq : LaxEasing → LaxEasing → LaxFlag
 laxEasingEq v w = compared (easingFrom v) (easingFrom w)
 
 abbrev pub supplied : EasingRead → LaxFlag
 supplied (Known e) = flagWords (suppliedOf e)
-supplied Unknown = noFlag 100
+supplied Unknown = noFlag unknownWord
 
 unfoldable pub laxEasingIsSupplied : LaxEasing → LaxFlag
 laxEasingIsSupplied w = supplied (easingFrom w)
@@ -41,4 +41,4 @@ laxEasingIsSupplied w = supplied (easingFrom w)
 -- a place beyond 37 is no kind
 unfoldable pub laxEasingNamed : ℕ → LaxEasingAnswer
 laxEasingNamed k =
-    cond (ltb k 38) (record { number = 0; easing = easingWords (getD allNamed k Linear) }) (record { number = 100; easing = easingWords Linear })
+    cond (ltb k 38) (record { number = 0; easing = easingWords (getD allNamed k Linear) }) (record { number = unknownWord; easing = easingWords Linear })

@@ -59,12 +59,19 @@ zero-clock : Clock zeroF
 unfolding le lt eq ofBits
 zero-clock = (tt, tt)
 
-passes-clock : (base : Float) (n : ℕ) → Clock base → leb n 65535 ≡ true → Up (overPasses base n)
+passes-up : (base : Float) (n : ℕ) → Clock base → leb n 65535 ≡ true → Up (overPasses base n)
+passes-up base n c h =
+    let m = passes.passesOf n in
+    let k = ofInt binary32 (pos m) in
+    let l : m ≤ 65535 = by-test (λ (m : ℕ). m ≤ 65535) (eqb n 0) 1 n (λ _. lit≤ tt) (λ _. leb-true n 65535 h) in
+    let v : Is k m = whole-is binary32 m (omega (arith, l)) in
+    let u : Up k = subst⁻¹ T (le-is zeroF k 0 m zero-is v) (le→leb 0 m (omega arith)) in
+    mul-up binary32 base k (clock-finite base c) (at-most-finite m k (is-at-most k m m v (le-refl m))) (c .0) u
+
+passes-clock : (base : Float) (n : ℕ) → Clock base → leb n 65535 && le (overPasses base n) topF ≡ true → Clock (overPasses base n)
 passes-clock base n c h =
-    let l : passes.passesOf n ≤ 65535 = by-test (λ (m : ℕ). m ≤ 65535) (eqb n 0) 1 n (λ _. lit≤ tt) (λ _. leb-true n 65535 h) in
-    let v : Is (ofInt binary32 (pos (passes.passesOf n))) (passes.passesOf n) = whole-is binary32 (passes.passesOf n) (omega (arith, l)) in
-    let u : Up (ofInt binary32 (pos (passes.passesOf n))) = subst⁻¹ T (le-is zeroF (ofInt binary32 (pos (passes.passesOf n))) 0 (passes.passesOf n) zero-is v) (le→leb 0 (passes.passesOf n) (omega arith)) in
-    mul-up binary32 base (ofInt binary32 (pos (passes.passesOf n))) (clock-finite base c) (at-most-finite (passes.passesOf n) (ofInt binary32 (pos (passes.passesOf n))) (is-at-most (ofInt binary32 (pos (passes.passesOf n))) (passes.passesOf n) (passes.passesOf n) v (le-refl (passes.passesOf n)))) (c .0) u
+    let b = and-both (leb n 65535) (le (overPasses base n) topF) h in
+    (passes-up base n c (b .0), holds (le (overPasses base n) topF) (b .1))
 
 -- where playback ends, it ends in time
 abbrev Timely : End → Type 0
@@ -74,14 +81,10 @@ Timely Never = Unit {0}
 end-timely : (m : Loop) (base : Float) → Clock base → modeFits m base ≡ true → Timely (endOf m base)
 unfolding modeFits endOf passes.withinOf
 end-timely Once base c h = c
-end-timely (Times n) base c h =
-    let b = and-both (leb n 65535) (le (overPasses base n) topF) h in
-    (passes-clock base n c (b .0), holds (le (overPasses base n) topF) (b .1))
+end-timely (Times n) base c h = passes-clock base n c h
 end-timely Forever base c h = tt
 end-timely PingPong base c h = tt
-end-timely (PingPongTimes n) base c h =
-    let b = and-both (leb n 65535) (le (overPasses base n) topF) h in
-    (passes-clock base n c (b .0), holds (le (overPasses base n) topF) (b .1))
+end-timely (PingPongTimes n) base c h = passes-clock base n c h
 
 duration-clock : (l : List Keyframe) → framesOf l ≡ true → Clock (durationOf l)
 unfolding durationOf

@@ -1,7 +1,7 @@
 -- What a track promises: ascending times, finite values, the value that was pushed, the ends, and what `running` says. Assumes nothing.
 use Prim.Native.Nat.{ℕ, _<_}
 use mathlib.Core.Path.{_≡_, refl, sym, ap, _∙_, subst, subst⁻¹}
-use mathlib.Core.Bool.{Bool, true, false, not, cond, _||_}
+use mathlib.Core.Bool.{Bool, true, false, not, cond, _||_, or-true}
 use mathlib.Core.List.{List, _++_}
 use native.Mathlib.Omega.{arith}
 use lib.Dec.{T, leb, ltb, eqb}
@@ -117,10 +117,6 @@ ran-told : (t : Track) (running : Bool) → running ≡ not (doneOf t) → Told 
 ran-told t running e b h =
     let s : running ≡ b = cc in
     sym s ∙ e
-
-or-true : (b : Bool) → b || true ≡ true
-or-true true = refl
-or-true false = refl
 
 -- not done: two frames or more
 goes : (t : Track) → doneOf t ≡ false → (e : Float) (c : ℕ) → doneOf (movedOf t e c false) ≡ false

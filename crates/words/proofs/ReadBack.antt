@@ -24,7 +24,7 @@ use Rattle.words.specs.declared.tracks.LaxKeyframe.{LaxKeyframe}
 use Rattle.words.specs.declared.tweens.TweenRead.the-variants.{Known}
 use Rattle.words.specs.Kinds.{withParameters, easingFrom, easingWords}
 use Rattle.words.specs.Modes.{loopFrom, loopWords, stateFrom, stateWord, flagWord}
-use Rattle.words.specs.Tracks.{placesIn, blanks, knownKinds, knownTrack, frameFrom, framesFrom, trackFrom, frameWords, framesWords, trackWords}
+use Rattle.words.specs.Tracks.{blanks, knownKinds, knownTrack, frameFrom, framesFrom, trackFrom, frameWords, framesWords, trackWords}
 use Rattle.words.specs.Tweens.{tweenFrom, tweenWords}
 use Rattle.words.proofs.Known.{all-places}
 

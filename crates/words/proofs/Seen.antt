@@ -3,7 +3,7 @@ use Prim.Native.Nat.{ℕ, _+_, _-_, _<_, _≤_}
 use native.Mathlib.Omega.{arith}
 use mathlib.Core.Path.{_≡_, refl, sym, _∙_}
 use mathlib.Core.Bool.{true, false, _&&_}
-use mathlib.Core.List.{List, map, _++_}
+use mathlib.Core.List.{List, map}
 use mathlib.Core.Logic.{_⊎_, inl, inr, ⊎-elim}
 use lib.Dec.{T, ltb}
 use lib.ListN.{length, length-append, length-map, take, drop, getD, List·getD-append, List·getD-map}
@@ -16,7 +16,6 @@ use Rattle.math.proofs.Choice.{and-both}
 use Rattle.math.proofs.Order.{lt-le, le-lt-chain, lt-le-chain}
 use Rattle.math.proofs.Upward.{Up}
 use Rattle.easing.specs.Apply.{fitsRecordOf}
-use Rattle.easing.specs.declared.answers.Eased.the-variants as eased
 use Rattle.frames.specs.declared.frame.Keyframe.{Keyframe}
 use Rattle.frames.specs.Limits.{timeOf, frameOf, framesAfter, framesOf, beforeAll, noFrame}
 use Rattle.frames.specs.Sampling.{cutOf, betweenOf, pickOf, sampleOf}
@@ -31,7 +30,7 @@ use Rattle.words.specs.declared.tracks.LaxTrack.{LaxTrack}
 use Rattle.words.specs.declared.sampling.Quick.the-variants.{Value}
 use Rattle.words.specs.Kinds.{withParameters, easingFrom}
 use Rattle.words.specs.Modes.{loopFrom}
-use Rattle.words.specs.Tracks.{placesIn, easingIn, loopIn, blanks, knownKinds, knownTrack, frameFrom, framesFrom, trackFrom}
+use Rattle.words.specs.Tracks.{easingIn, loopIn, blanks, knownKinds, knownTrack, frameFrom, framesFrom, trackFrom}
 use Rattle.words.specs.Sampling.{easingFits, quickOf}
 use Rattle.words.proofs.Known.{noWords, all-places, known-step, known-end}
 

@@ -1,8 +1,8 @@
 -- Words of which a value is answered pass every test of the walk along their frames; so where a test fails, none is. Assumes nothing.
 use Prim.Native.Nat.{ℕ, zero, suc, _-_, _<_, _≤_}
 use native.Mathlib.Omega.{arith}
-use mathlib.Core.Path.{_≡_, refl, sym, _∙_}
-use mathlib.Core.Bool.{Bool, true, false, _&&_, _||_, cond, false≢true}
+use mathlib.Core.Path.{_≡_, refl, _∙_}
+use mathlib.Core.Bool.{Bool, true, false, _&&_, _||_, cond}
 use mathlib.Core.List.{List, [], _∷_}
 use mathlib.Core.Logic.{⊎-elim}
 use lib.Dec.{eqb, ltb}
@@ -24,7 +24,6 @@ use Rattle.keyframe.proofs.Records.{few-frames, frames-fine, last-time, clocked
 use Rattle.words.specs.declared.tracks.LaxKeyframe.{LaxKeyframe}
 use Rattle.words.specs.declared.tracks.LaxTrack.{LaxTrack}
 use Rattle.words.specs.declared.sampling.Quick.the-variants.{Value, Unsure}
-use Rattle.words.specs.Kinds.{easingFrom}
 use Rattle.words.specs.Modes.{loopFrom}
 use Rattle.words.specs.Tracks.{placesIn, loopIn, knownKinds, knownTrack, frameFrom, trackFrom}
 use Rattle.words.specs.Sampling.{easingFits, quickFrom, quickOf}

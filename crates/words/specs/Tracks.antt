@@ -4,12 +4,12 @@ use mathlib.Core.Bool.{Bool, true, not, cond, _&&_}
 use mathlib.Core.List.{List, [], _∷_, _++_, map}
 use lib.Dec.{ltb, eqb}
 use lib.ListN.{take, drop, replicate}
-use Rattle.math.specs.Rounded.{zeroF}
 use Rattle.easing.specs.declared.kinds.Easing.{Easing}
 use Rattle.easing.specs.declared.kinds.Easing.the-variants.{Linear}
 use Rattle.loop_mode.specs.declared.Loop.{Loop}
 use Rattle.loop_mode.specs.declared.Loop.the-variants.{Once}
 use Rattle.frames.specs.declared.frame.Keyframe.{Keyframe}
+use Rattle.frames.specs.Limits.{blank}
 use Rattle.keyframe.specs.declared.types.Track.{Track}
 use Rattle.words.specs.declared.kinds.EasingRead.{EasingRead}
 use Rattle.words.specs.declared.kinds.EasingRead.the-variants as kind
@@ -46,7 +46,7 @@ unfoldable pub frameFrom : LaxKeyframe → Keyframe
 frameFrom w = record { time = w .time; value = w .value; easing = easingIn (easingFrom (w .easing)) }
 
 abbrev pub blanks : List Keyframe
-blanks = replicate 64 (record { time = zeroF; value = zeroF; easing = Linear })
+blanks = replicate 64 blank
 
 -- the places behind the frames are not looked at
 unfoldable pub framesFrom : List LaxKeyframe → ℕ → List Keyframe

@@ -60,7 +60,7 @@ fn between(k: LaxKeyframe, l: LaxKeyframe, t: f32) -> f32
     math::blend(k.value, l.value, eased(e, p))
 }
 
-fn clock_fits(looping: LaxLoop, elapsed: f32, base: f32) -> bool
+fn clock_fits(elapsed: f32, looping: LaxLoop, base: f32) -> bool
     ensures { λ r. ⌜ r ≡ ltb (looping .mode) 5 && clockFits elapsed (loopIn (loopFrom looping)) base ⌝ }
 {
     (looping.mode < 5) & keyframe::clock_fits(elapsed, mode_of(looping), base)
@@ -78,7 +78,7 @@ pub fn quick_value_at(w: LaxTrack, secs: f32) -> Quick
     let first = w.frames[0];
     let last = w.frames[n - 1];
     let ends = frames::is_time(first.time) & frames::is_time(last.time);
-    if !(ends & clock_fits(w.looping, w.elapsed, last.time)) {
+    if !(ends & clock_fits(w.elapsed, w.looping, last.time)) {
         return Quick::Unsure;
     }
     let t = frames::cut(math::max_zero(secs), last.time);

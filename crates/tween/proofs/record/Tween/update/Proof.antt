@@ -3,7 +3,7 @@ use mathlib.Core.Path.{sym, subst}
 use borrow.Author.Needs.{needs}
 use Rattle.math.proofs.Choice.{fails, passes}
 use Rattle.tween.specs.Update.{updateOf}
-use Rattle.tween.specs.Gliding.{Glides}
+use Rattle.tween.specs.Inner.{Glides}
 use Rattle.tween.proofs.Glides.{goes-to}
 use Rattle.tween.proofs.record.Tween.update.Statement.{statement}
 use Rattle.tween.proofs.record.Tween.update.Tie as tie
