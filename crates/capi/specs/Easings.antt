@@ -1,7 +1,6 @@
 -- What the exported calls of an easing answer: the easing read from its words, the library's definition, the answer's words.
 use Prim.Native.Nat.{ℕ}
 use mathlib.Core.Bool.{cond}
-use lib.Dec.{ltb}
 use lib.ListN.{getD}
 use lib.Ieee.{Float}
 use Rattle.easing.specs.declared.kinds.Easing.the-variants.{Linear}
@@ -10,7 +9,7 @@ use Rattle.easing.specs.Apply.{applyOf, eqOf}
 use Rattle.words.specs.declared.kinds.LaxEasing.{LaxEasing}
 use Rattle.words.specs.declared.kinds.EasingRead.{EasingRead}
 use Rattle.words.specs.declared.kinds.EasingRead.the-variants.{Known, Unknown}
-use Rattle.words.specs.Kinds.{easingFrom, easingWords}
+use Rattle.words.specs.Kinds.{isKind, easingFrom, easingWords}
 use Rattle.capi.specs.declared.answers.LaxValue.{LaxValue}
 use Rattle.capi.specs.declared.answers.LaxFlag.{LaxFlag}
 use Rattle.capi.specs.declared.answers.LaxEasingAnswer.{LaxEasingAnswer}
@@ -41,4 +40,4 @@ laxEasingIsSupplied w = supplied (easingFrom w)
 -- a place beyond 37 is no kind
 unfoldable pub laxEasingNamed : ℕ → LaxEasingAnswer
 laxEasingNamed k =
-    cond (ltb k 38) (record { number = 0; easing = easingWords (getD allNamed k Linear) }) (record { number = unknownWord; easing = easingWords Linear })
+    cond (isKind k) (record { number = 0; easing = easingWords (getD allNamed k Linear) }) (record { number = unknownWord; easing = easingWords Linear })

@@ -42,9 +42,10 @@ use Rattle.keyframe.specs.declared.types.End.{End}
 use Rattle.keyframe.specs.declared.types.End.the-variants.{At, Never}
 use Rattle.keyframe.specs.Limits.{framesIn, baseOf, overPasses, endOf, modeFits, clockFits, withinOf, Fine}
 use Rattle.keyframe.specs.Pushing.{newTrack, storedOf, laterOf, takesOf, withFrames, withMode, placedOf, pushOf, loopingOf}
-use Rattle.keyframe.specs.Playback.{doneOf}
-use Rattle.keyframe.specs.Stepping.{movedOf, lostOf, advanceOf, updateOf, resetOf, spanIn, soughtOf, seekToOf}
+use Rattle.keyframe.specs.Stepping.{movedOf, advanceOf, updateOf, resetOf, spanIn, soughtOf, seekToOf}
 use Rattle.keyframe.proofs.Records.{few-frames, frames-fine, elapsed-fine, mode-fine}
+use Rattle.keyframe.proofs.Changes.{by-push}
+use Rattle.keyframe.proofs.Moves.{by-update}
 
 make : (t : Track) → t .count ≤ 64 → framesOf (framesIn t) ≡ true → Clock (t .elapsed) → modeFits (t .looping) (baseOf t) ≡ true → Fine t
 unfolding withinOf clockFits
@@ -119,15 +120,9 @@ module _ (t : Track) (fine : Fine t) where
       top-number = le-numbers zeroF topF (zero-clock .1) .1
 
   pub update-within : (dt : Float) → Fine (updateOf t dt .track)
-  unfolding updateOf
   update-within dt =
-      rw fine
-      (by-test (λ (r : Updated). Fine (r .track)) (lt topF dt) _ _ (λ _. fine)
-      (λ _.
-      by-test (λ (r : Updated). Fine (r .track)) (doneOf t) _ _ (λ _. fine)
-      (λ _.
-      by-test (λ (r : Updated). Fine (r .track)) (lostOf (t .elapsed) (maxZeroOf dt)) _ _ (λ _. fine)
-      (λ _. advance-within (endOf (t .looping) (baseOf t)) timely (t .elapsed ⊕ maxZeroOf dt) (add-up binary32 (t .elapsed) (maxZeroOf dt) (test-clock (t .elapsed) (elapsed-fine t fine) .0) (max-zero-up dt))))))
+      by-update (λ (r : Updated). Fine (r .track)) t dt (λ _. fine) (λ _. fine)
+      (λ _. advance-within (endOf (t .looping) (baseOf t)) timely (t .elapsed ⊕ maxZeroOf dt) (add-up binary32 (t .elapsed) (maxZeroOf dt) (test-clock (t .elapsed) (elapsed-fine t fine) .0) (max-zero-up dt)))
 
   pub reset-within : Fine (resetOf t .track)
   unfolding resetOf
@@ -182,15 +177,10 @@ module _ (t : Track) (fine : Fine t) (k : Keyframe) (good : frameOf k ≡ true) 
       (λ _. fine)
 
 pub push-within : (t : Track) → Fine t → (time value : Float) (e : Easing) → Fine (pushOf t time value e .track)
-unfolding pushOf takesOf frameOf fitsRecordOf
+unfolding takesOf frameOf fitsRecordOf
 push-within t fine time value e =
-    rw fine
-    (by-test (λ (r : Changed). Fine (r .track)) (suppliedOf e) _ _
-    (λ s.
-    by-test (λ (r : Changed). Fine (r .track)) (params.withinOf (params.paramsOf e)) _ _
-    (λ p. by-test (λ (r : Changed). Fine (r .track)) (takesOf t (storedOf time) value) _ _ (λ h. placed-within t fine (record { time = storedOf time; value = value; easing = e }) (framed (storedOf time) h s p) (fitting (storedOf time) h)) (λ _. fine))
-    (λ _. fine))
-    (λ _. fine))
+    by-push (λ (r : Changed). Fine (r .track)) t time value e (λ _. fine)
+    (λ s p h. placed-within t fine (record { time = storedOf time; value = value; easing = e }) (framed (storedOf time) h s p) (fitting (storedOf time) h))
   where
     framed : (x : Float) → takesOf t x value ≡ true → suppliedOf e ≡ true → params.withinOf (params.paramsOf e) ≡ true → frameOf (record { time = x; value = value; easing = e }) ≡ true
     framed x h s p =

@@ -25,7 +25,7 @@ pub enum Glided {
     Unsure,
 }
 
-// What is left of a step once elapsed stands at e.
+// `advance` where the tween runs on with one fold at most; else Unsure.
 fn slide(t: Tween, waited: f32, e: f32) -> Glided
     requires { ⌜ t .«loop_count» ≤ 16777216 ⌝ }
     ensures { λ r. ⌜ Slides t waited e r ⌝ }

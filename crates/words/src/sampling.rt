@@ -1,13 +1,9 @@
 // The value of a track at a time, straight from its words: no track is built.
 ghost use mathlib.Core.Path.{_≡_};
-ghost use mathlib.Core.Bool.{_&&_};
-ghost use lib.Dec.{ltb};
 ghost use Rattle.words.specs.Kinds.{easingFrom};
-ghost use Rattle.words.specs.Modes.{loopFrom};
-ghost use Rattle.words.specs.Tracks.{easingIn, loopIn, frameFrom};
-ghost use Rattle.words.specs.Sampling.{plainKind, easingFits, quickOf};
+ghost use Rattle.words.specs.Tracks.{easingIn, frameFrom};
+ghost use Rattle.words.specs.Sampling.{plainKind, easingFits, clockKnown, quickOf};
 ghost use Rattle.frames.specs.Sampling.{easedOf, betweenOf};
-ghost use Rattle.keyframe.specs.Limits.{clockFits};
 use crate::kinds::EasingRead;
 use crate::kinds::LaxEasing;
 use crate::kinds::easing_of;
@@ -61,7 +57,7 @@ fn between(k: LaxKeyframe, l: LaxKeyframe, t: f32) -> f32
 }
 
 fn clock_fits(elapsed: f32, looping: LaxLoop, base: f32) -> bool
-    ensures { λ r. ⌜ r ≡ ltb (looping .mode) 5 && clockFits elapsed (loopIn (loopFrom looping)) base ⌝ }
+    ensures { λ r. ⌜ r ≡ clockKnown elapsed looping base ⌝ }
 {
     (looping.mode < 5) & keyframe::clock_fits(elapsed, mode_of(looping), base)
 }

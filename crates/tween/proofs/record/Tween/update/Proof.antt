@@ -1,4 +1,4 @@
--- `update` meets its contract, by what `step_on` ensures. Assumes nothing.
+-- `update` meets its contract, by what `glide` and `step_on` ensure. Assumes nothing.
 use mathlib.Core.Path.{sym, subst}
 use borrow.Author.Needs.{needs}
 use Rattle.math.proofs.Choice.{fails, passes}
