@@ -31,6 +31,10 @@ use Rattle.capi.specs.declared.answers.LaxChanged.{LaxChanged}
 use Rattle.capi.specs.declared.answers.LaxUpdated.{LaxUpdated}
 use Rattle.capi.specs.declared.answers.LaxRun.{LaxRun}
 
+-- the number where a word is no kind, no mode or no state
+abbrev pub unknownWord : ℕ
+unknownWord = 100
+
 abbrev pub noValue : ℕ → LaxValue
 noValue n = record { number = n; value = zeroF }
 
@@ -72,19 +76,19 @@ snapshotWords (snapped.Snapshot now) =
 snapshotWords (snapped.Refused r) = noSnapshot (numberOf r)
 
 -- w is the tween that came
-abbrev pub unchanged : LaxTween → LaxChanged
-unchanged w = record { number = 100; tween = w }
+abbrev pub unchanged : LaxTween → ℕ → LaxChanged
+unchanged w n = record { number = n; tween = w }
 
 unfoldable pub changedWords : LaxTween → Changed → LaxChanged
 changedWords w (changed.Done u) = record { number = 0; tween = tweenWords u }
-changedWords w (changed.Refused u r) = record { number = numberOf r; tween = w }
+changedWords w (changed.Refused u r) = unchanged w (numberOf r)
 
-abbrev pub notUpdated : LaxTween → LaxUpdated
-notUpdated w = record { number = 100; folds = 0; running = 0; tween = w }
+abbrev pub notUpdated : LaxTween → ℕ → LaxUpdated
+notUpdated w n = record { number = n; folds = 0; running = 0; tween = w }
 
 unfoldable pub updatedWords : LaxTween → Updated → LaxUpdated
 updatedWords w (updated.Ran u k running) = record { number = 0; folds = k; running = flagWord running; tween = tweenWords u }
-updatedWords w (updated.Refused u r) = record { number = numberOf r; folds = 0; running = 0; tween = w }
+updatedWords w (updated.Refused u r) = notUpdated w (numberOf r)
 
 abbrev pub outcomeNumber : Outcome → ℕ
 outcomeNumber outcome.Finished = 0

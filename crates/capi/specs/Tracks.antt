@@ -1,11 +1,9 @@
 -- What the exported calls of a track answer: the track read from its words, the library's definition, the answer's words.
-use Prim.Native.Nat.{ℕ}
 use mathlib.Core.Bool.{cond}
 use mathlib.Core.List.{List}
 use lib.ListN.{replicate}
 use lib.Ieee.{Float}
-use Rattle.math.specs.Rounded.{zeroF}
-use Rattle.easing.specs.declared.kinds.Easing.the-variants.{Linear}
+use Rattle.frames.specs.Limits.{blank}
 use Rattle.keyframe.specs.declared.types.Track.{Track}
 use Rattle.keyframe.specs.Pushing.{newTrack, pushOf, loopingOf}
 use Rattle.keyframe.specs.Sampling.{valueAtOf, valueNow}
@@ -19,72 +17,72 @@ use Rattle.words.specs.declared.modes.LaxLoop.{LaxLoop}
 use Rattle.words.specs.declared.modes.LoopRead.{LoopRead}
 use Rattle.words.specs.declared.modes.LoopRead.the-variants as mode
 use Rattle.words.specs.declared.tracks.LaxTrack.{LaxTrack}
-use Rattle.words.specs.Kinds.{easingFrom, easingWords}
+use Rattle.words.specs.Kinds.{easingFrom}
 use Rattle.words.specs.Modes.{loopFrom}
-use Rattle.words.specs.Tracks.{knownTrack, trackFrom, trackWords}
+use Rattle.words.specs.Tracks.{knownTrack, trackFrom, frameWords, trackWords}
 use Rattle.capi.specs.declared.answers.LaxValue.{LaxValue}
 use Rattle.capi.specs.declared.answers.LaxFlag.{LaxFlag}
 use Rattle.capi.specs.declared.track_answers.LaxTrackChanged.{LaxTrackChanged}
 use Rattle.capi.specs.declared.track_answers.LaxTrackUpdated.{LaxTrackUpdated}
 use Rattle.capi.specs.declared.track_answers.LaxFilled.{LaxFilled}
-use Rattle.capi.specs.Answers.{noValue, valueWords, secondsWords, progressWords, noFlag}
+use Rattle.capi.specs.Answers.{unknownWord, noValue, valueWords, secondsWords, progressWords, noFlag}
 use Rattle.capi.specs.TrackAnswers.{untouched, trackChangedWords, notStepped, trackUpdatedWords, completionWords}
 
 -- the answer for a track that was read, or the one for words that are none
 abbrev pub onTrack : {A : Type 0} → LaxTrack → (Track → A) → A → A
 onTrack w known unknown = cond (knownTrack w) (known (trackFrom w)) unknown
 
--- the places are 0
+-- every word of the places is 0
 unfoldable pub laxTrackNew : LaxTrack
-laxTrackNew = trackWords (replicate 64 (record { time = zeroF; value = zeroF; easing = easingWords Linear })) newTrack
+laxTrackNew = trackWords (replicate 64 (frameWords blank)) newTrack
 
 abbrev pub pushed : LaxTrack → Float → Float → EasingRead → Track → LaxTrackChanged
 pushed w time value (kind.Known e) t = trackChangedWords w (pushOf t time value e)
-pushed w time value kind.Unknown t = untouched w 100
+pushed w time value kind.Unknown t = untouched w unknownWord
 
 unfoldable pub laxTrackPush : LaxTrack → Float → Float → LaxEasing → LaxTrackChanged
-laxTrackPush w time value e = onTrack w (pushed w time value (easingFrom e)) (untouched w 100)
+laxTrackPush w time value e = onTrack w (pushed w time value (easingFrom e)) (untouched w unknownWord)
 
 abbrev pub looped : LaxTrack → LoopRead → Track → LaxTrackChanged
 looped w (mode.Known l) t = trackChangedWords w (loopingOf t l)
-looped w mode.Unknown t = untouched w 100
+looped w mode.Unknown t = untouched w unknownWord
 
 unfoldable pub laxTrackLooping : LaxTrack → LaxLoop → LaxTrackChanged
-laxTrackLooping w m = onTrack w (looped w (loopFrom m)) (untouched w 100)
+laxTrackLooping w m = onTrack w (looped w (loopFrom m)) (untouched w unknownWord)
 
 unfoldable pub laxTrackValueAt : LaxTrack → Float → LaxValue
-laxTrackValueAt w secs = onTrack w (λ t. valueWords (valueAtOf t secs)) (noValue 100)
+laxTrackValueAt w secs = onTrack w (λ t. valueWords (valueAtOf t secs)) (noValue unknownWord)
 
 unfoldable pub laxTrackValue : LaxTrack → LaxValue
-laxTrackValue w = onTrack w (λ t. valueWords (valueNow t)) (noValue 100)
+laxTrackValue w = onTrack w (λ t. valueWords (valueNow t)) (noValue unknownWord)
 
 unfoldable pub laxTrackActiveTime : LaxTrack → LaxValue
-laxTrackActiveTime w = onTrack w (λ t. secondsWords (activeTimeOf t)) (noValue 100)
+laxTrackActiveTime w = onTrack w (λ t. secondsWords (activeTimeOf t)) (noValue unknownWord)
 
 unfoldable pub laxTrackDuration : LaxTrack → LaxValue
-laxTrackDuration w = onTrack w (λ t. secondsWords (durationIn t)) (noValue 100)
+laxTrackDuration w = onTrack w (λ t. secondsWords (durationIn t)) (noValue unknownWord)
 
 unfoldable pub laxTrackPlaybackDuration : LaxTrack → LaxValue
-laxTrackPlaybackDuration w = onTrack w (λ t. secondsWords (playbackIn t)) (noValue 100)
+laxTrackPlaybackDuration w = onTrack w (λ t. secondsWords (playbackIn t)) (noValue unknownWord)
 
 unfoldable pub laxTrackProgress : LaxTrack → LaxValue
-laxTrackProgress w = onTrack w (λ t. progressWords (progressOf t)) (noValue 100)
+laxTrackProgress w = onTrack w (λ t. progressWords (progressOf t)) (noValue unknownWord)
 
 unfoldable pub laxTrackIsComplete : LaxTrack → LaxFlag
-laxTrackIsComplete w = onTrack w (λ t. completionWords (completeOf t)) (noFlag 100)
+laxTrackIsComplete w = onTrack w (λ t. completionWords (completeOf t)) (noFlag unknownWord)
 
 unfoldable pub laxTrackReset : LaxTrack → LaxTrackChanged
-laxTrackReset w = onTrack w (λ t. trackChangedWords w (resetOf t)) (untouched w 100)
+laxTrackReset w = onTrack w (λ t. trackChangedWords w (resetOf t)) (untouched w unknownWord)
 
 unfoldable pub laxTrackSeekTo : LaxTrack → Float → LaxTrackChanged
-laxTrackSeekTo w p = onTrack w (λ t. trackChangedWords w (seekToOf t p)) (untouched w 100)
+laxTrackSeekTo w p = onTrack w (λ t. trackChangedWords w (seekToOf t p)) (untouched w unknownWord)
 
 unfoldable pub laxTrackUpdate : LaxTrack → Float → LaxTrackUpdated
-laxTrackUpdate w step = onTrack w (λ t. trackUpdatedWords w (updateOf t step)) (notStepped w 100)
+laxTrackUpdate w step = onTrack w (λ t. trackUpdatedWords w (updateOf t step)) (notStepped w unknownWord)
 
 -- many times at once, and the lent output afterwards
 unfoldable pub laxTrackFilled : LaxTrack → List Float → List Float → LaxFilled
-laxTrackFilled w times out = onTrack w (λ t. record { filled = batchCount t times out; number = batchNumber t times out }) (record { filled = 0; number = 100 })
+laxTrackFilled w times out = onTrack w (λ t. record { filled = batchCount t times out; number = batchNumber t times out }) (record { filled = 0; number = unknownWord })
 
 unfoldable pub laxTrackOut : LaxTrack → List Float → List Float → List Float
 laxTrackOut w times out = onTrack w (λ t. batchOut t times out) out

@@ -15,7 +15,7 @@ use Rattle.capi.specs.declared.answers.LaxSnapshot.{LaxSnapshot}
 use Rattle.capi.specs.declared.answers.LaxChanged.{LaxChanged}
 use Rattle.capi.specs.declared.answers.LaxUpdated.{LaxUpdated}
 use Rattle.capi.specs.declared.answers.LaxRun.{LaxRun}
-use Rattle.capi.specs.Answers.{noValue, valueWords, secondsWords, progressWords, noSnapshot, snapshotWords, unchanged, changedWords, notUpdated, updatedWords, runWords}
+use Rattle.capi.specs.Answers.{unknownWord, noValue, valueWords, secondsWords, progressWords, noSnapshot, snapshotWords, unchanged, changedWords, notUpdated, updatedWords, runWords}
 
 -- the answer for a tween that was read, or the one for words that are none
 abbrev pub onTween : {A : Type 0} → TweenRead → (Tween → A) → A → A
@@ -23,41 +23,41 @@ onTween (Known t) known unknown = known t
 onTween Unknown known unknown = unknown
 
 unfoldable pub laxTweenValue : LaxTween → LaxValue
-laxTweenValue w = onTween (tweenFrom w) (λ t. valueWords (valueOf t)) (noValue 100)
+laxTweenValue w = onTween (tweenFrom w) (λ t. valueWords (valueOf t)) (noValue unknownWord)
 
 unfoldable pub laxTweenProgress : LaxTween → LaxValue
-laxTweenProgress w = onTween (tweenFrom w) (λ t. progressWords (progressOf t)) (noValue 100)
+laxTweenProgress w = onTween (tweenFrom w) (λ t. progressWords (progressOf t)) (noValue unknownWord)
 
 unfoldable pub laxTweenEasedProgress : LaxTween → LaxValue
-laxTweenEasedProgress w = onTween (tweenFrom w) (λ t. valueWords (easedProgressOf t)) (noValue 100)
+laxTweenEasedProgress w = onTween (tweenFrom w) (λ t. valueWords (easedProgressOf t)) (noValue unknownWord)
 
 unfoldable pub laxTweenSnapshot : LaxTween → LaxSnapshot
-laxTweenSnapshot w = onTween (tweenFrom w) (λ t. snapshotWords (snapshotOf t)) (noSnapshot 100)
+laxTweenSnapshot w = onTween (tweenFrom w) (λ t. snapshotWords (snapshotOf t)) (noSnapshot unknownWord)
 
 unfoldable pub laxTweenPlaybackDuration : LaxTween → LaxValue
-laxTweenPlaybackDuration w = onTween (tweenFrom w) (λ t. secondsWords (playbackDurationOf t)) (noValue 100)
+laxTweenPlaybackDuration w = onTween (tweenFrom w) (λ t. secondsWords (playbackDurationOf t)) (noValue unknownWord)
 
 unfoldable pub laxTweenReset : LaxTween → LaxChanged
-laxTweenReset w = onTween (tweenFrom w) (λ t. changedWords w (resetOf t)) (unchanged w)
+laxTweenReset w = onTween (tweenFrom w) (λ t. changedWords w (resetOf t)) (unchanged w unknownWord)
 
 unfoldable pub laxTweenSeek : LaxTween → Float → LaxChanged
-laxTweenSeek w p = onTween (tweenFrom w) (λ t. changedWords w (seekOf t p)) (unchanged w)
+laxTweenSeek w p = onTween (tweenFrom w) (λ t. changedWords w (seekOf t p)) (unchanged w unknownWord)
 
 unfoldable pub laxTweenReverse : LaxTween → LaxChanged
-laxTweenReverse w = onTween (tweenFrom w) (λ t. changedWords w (reverseOf t)) (unchanged w)
+laxTweenReverse w = onTween (tweenFrom w) (λ t. changedWords w (reverseOf t)) (unchanged w unknownWord)
 
 unfoldable pub laxTweenPause : LaxTween → LaxChanged
-laxTweenPause w = onTween (tweenFrom w) (λ t. changedWords w (pauseOf t)) (unchanged w)
+laxTweenPause w = onTween (tweenFrom w) (λ t. changedWords w (pauseOf t)) (unchanged w unknownWord)
 
 unfoldable pub laxTweenResume : LaxTween → LaxChanged
-laxTweenResume w = onTween (tweenFrom w) (λ t. changedWords w (resumeOf t)) (unchanged w)
+laxTweenResume w = onTween (tweenFrom w) (λ t. changedWords w (resumeOf t)) (unchanged w unknownWord)
 
 unfoldable pub laxTweenUpdate : LaxTween → Float → LaxUpdated
-laxTweenUpdate w step = onTween (tweenFrom w) (λ t. updatedWords w (updateOf t step)) (notUpdated w)
+laxTweenUpdate w step = onTween (tweenFrom w) (λ t. updatedWords w (updateOf t step)) (notUpdated w unknownWord)
 
 -- a run of steps, and its two lent lists afterwards
 unfoldable pub laxTweenRun : LaxTween → List Float → List Float → List ℕ → LaxRun
-laxTweenRun w steps values folds = onTween (tweenFrom w) (λ t. runWords w (answerOf (runOf t steps values folds))) (record { done = 0; number = 100; tween = w })
+laxTweenRun w steps values folds = onTween (tweenFrom w) (λ t. runWords w (answerOf (runOf t steps values folds))) (record { done = 0; number = unknownWord; tween = w })
 
 unfoldable pub laxRunValues : LaxTween → List Float → List Float → List ℕ → List Float
 laxRunValues w steps values folds = onTween (tweenFrom w) (λ t. over (runOf t steps values folds .values) values) values

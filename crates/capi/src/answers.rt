@@ -1,7 +1,7 @@
 // What the exported functions answer. Where number is not 0 the rest is 0, but for a tween, which is
 // then the one that came.
 ghost use mathlib.Core.Path.{_≡_};
-ghost use Rattle.capi.specs.Answers.{valueWords, flagWords, noValue, noFlag, equalityWords, secondsWords, progressWords, snapshotWords, noSnapshot, changedWords, updatedWords, outcomeNumber, runWords};
+ghost use Rattle.capi.specs.Answers.{valueWords, flagWords, noValue, noFlag, equalityWords, secondsWords, progressWords, snapshotWords, noSnapshot, unchanged, changedWords, notUpdated, updatedWords, outcomeNumber, runWords};
 use easing::Eased;
 use easing::Equality;
 use steps::Outcome;
@@ -16,6 +16,9 @@ use words::LaxTween;
 use words::flag_word;
 use words::state_word;
 use words::tween_words;
+
+// The number where a word is no kind, no mode or no state.
+pub const UNKNOWN_WORD: u32 = 100;
 
 #[repr(C)]
 pub struct LaxValue {
@@ -162,24 +165,38 @@ pub fn snapshot_words(a: Snapped) -> LaxSnapshot
     }
 }
 
-// t is the tween that came.
-pub fn changed_words(t: LaxTween, a: Changed) -> LaxChanged
-    ensures { λ r. ⌜ r ≡ changedWords t a ⌝ }
+// w is the tween that came.
+pub fn unchanged(w: LaxTween, number: u32) -> LaxChanged
+    ensures { λ r. ⌜ r ≡ unchanged w number ⌝ }
+{
+    LaxChanged { number, tween: w }
+}
+
+pub fn changed_words(w: LaxTween, a: Changed) -> LaxChanged
+    ensures { λ r. ⌜ r ≡ changedWords w a ⌝ }
 {
     match a {
         Changed::Done(u) => LaxChanged {
             number: 0,
             tween: tween_words(u),
         },
-        Changed::Refused { tween: _, refusal } => LaxChanged {
-            number: refusal.number(),
-            tween: t,
-        },
+        Changed::Refused { tween: _, refusal } => unchanged(w, refusal.number()),
     }
 }
 
-pub fn updated_words(t: LaxTween, a: Updated) -> LaxUpdated
-    ensures { λ r. ⌜ r ≡ updatedWords t a ⌝ }
+pub fn not_updated(w: LaxTween, number: u32) -> LaxUpdated
+    ensures { λ r. ⌜ r ≡ notUpdated w number ⌝ }
+{
+    LaxUpdated {
+        number,
+        folds: 0,
+        running: 0,
+        tween: w,
+    }
+}
+
+pub fn updated_words(w: LaxTween, a: Updated) -> LaxUpdated
+    ensures { λ r. ⌜ r ≡ updatedWords w a ⌝ }
 {
     match a {
         Updated::Ran {
@@ -192,12 +209,7 @@ pub fn updated_words(t: LaxTween, a: Updated) -> LaxUpdated
             running: flag_word(running),
             tween: tween_words(tween),
         },
-        Updated::Refused { tween: _, refusal } => LaxUpdated {
-            number: refusal.number(),
-            folds: 0,
-            running: 0,
-            tween: t,
-        },
+        Updated::Refused { tween: _, refusal } => not_updated(w, refusal.number()),
     }
 }
 
@@ -210,8 +222,8 @@ fn outcome_number(outcome: Outcome) -> u32
     }
 }
 
-pub fn run_words(t: LaxTween, run: Run) -> LaxRun
-    ensures { λ r. ⌜ r ≡ runWords t run ⌝ }
+pub fn run_words(w: LaxTween, run: Run) -> LaxRun
+    ensures { λ r. ⌜ r ≡ runWords w run ⌝ }
 {
     let outcome = run.outcome;
     let number = outcome_number(outcome);
@@ -219,7 +231,7 @@ pub fn run_words(t: LaxTween, run: Run) -> LaxRun
         return LaxRun {
             done: 0,
             number,
-            tween: t,
+            tween: w,
         };
     }
     let tween = run.tween;

@@ -4,6 +4,7 @@ ghost use Rattle.capi.specs.Easings.{laxEasingApply, laxEasingEq, laxEas
 use crate::answers::LaxEasingAnswer;
 use crate::answers::LaxFlag;
 use crate::answers::LaxValue;
+use crate::answers::UNKNOWN_WORD;
 use crate::answers::equality_words;
 use crate::answers::flag_words;
 use crate::answers::no_flag;
@@ -22,7 +23,7 @@ pub extern "C" fn lax_easing_apply(e: LaxEasing, t: f32) -> LaxValue
 {
     match easing_of(e) {
         EasingRead::Known(easing) => value_words(easing.apply(Progress(t))),
-        EasingRead::Unknown => no_value(100),
+        EasingRead::Unknown => no_value(UNKNOWN_WORD),
     }
 }
 
@@ -31,10 +32,10 @@ pub extern "C" fn lax_easing_eq(x: LaxEasing, y: LaxEasing) -> LaxFlag
     ensures { λ r. ⌜ r ≡ laxEasingEq x y ⌝ }
 {
     let EasingRead::Known(left) = easing_of(x) else {
-        return no_flag(100);
+        return no_flag(UNKNOWN_WORD);
     };
     let EasingRead::Known(right) = easing_of(y) else {
-        return no_flag(100);
+        return no_flag(UNKNOWN_WORD);
     };
     equality_words(left.eq(right))
 }
@@ -45,7 +46,7 @@ pub extern "C" fn lax_easing_is_supplied(e: LaxEasing) -> LaxFlag
 {
     match easing_of(e) {
         EasingRead::Known(easing) => flag_words(easing.is_supplied()),
-        EasingRead::Unknown => no_flag(100),
+        EasingRead::Unknown => no_flag(UNKNOWN_WORD),
     }
 }
 
@@ -63,7 +64,7 @@ pub extern "C" fn lax_easing_named(place: u32) -> LaxEasingAnswer
         };
     }
     LaxEasingAnswer {
-        number: 100,
+        number: UNKNOWN_WORD,
         easing: easing_words(Easing::Linear),
     }
 }

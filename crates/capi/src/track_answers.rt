@@ -33,7 +33,7 @@ pub struct LaxFilled {
     pub number: u32,
 }
 
-pub fn refused(w: LaxTrack, number: u32) -> LaxTrackChanged
+pub fn untouched(w: LaxTrack, number: u32) -> LaxTrackChanged
     ensures { λ r. ⌜ r ≡ untouched w number ⌝ }
 {
     LaxTrackChanged { number, track: w }
@@ -53,11 +53,11 @@ pub fn track_changed_words(w: LaxTrack, a: Changed) -> LaxTrackChanged
                 track: track_words(came, track),
             }
         }
-        Outcome::Refused(refusal) => refused(w, refusal.number()),
+        Outcome::Refused(refusal) => untouched(w, refusal.number()),
     }
 }
 
-pub fn stood(w: LaxTrack, number: u32) -> LaxTrackUpdated
+pub fn not_stepped(w: LaxTrack, number: u32) -> LaxTrackUpdated
     ensures { λ r. ⌜ r ≡ notStepped w number ⌝ }
 {
     LaxTrackUpdated {
@@ -81,7 +81,7 @@ pub fn track_updated_words(w: LaxTrack, a: Updated) -> LaxTrackUpdated
                 track: track_words(came, track),
             }
         }
-        Stepped::Refused(refusal) => stood(w, refusal.number()),
+        Stepped::Refused(refusal) => not_stepped(w, refusal.number()),
     }
 }
 

@@ -5,6 +5,7 @@ ghost use Rattle.words.specs.Kinds.{easingWords};
 ghost use Rattle.easing.specs.declared.kinds.Easing.the-variants.{Linear};
 use crate::answers::LaxFlag;
 use crate::answers::LaxValue;
+use crate::answers::UNKNOWN_WORD;
 use crate::answers::no_flag;
 use crate::answers::no_value;
 use crate::answers::progress_words;
@@ -14,10 +15,10 @@ use crate::track_answers::LaxFilled;
 use crate::track_answers::LaxTrackChanged;
 use crate::track_answers::LaxTrackUpdated;
 use crate::track_answers::completion_words;
-use crate::track_answers::refused;
-use crate::track_answers::stood;
+use crate::track_answers::not_stepped;
 use crate::track_answers::track_changed_words;
 use crate::track_answers::track_updated_words;
+use crate::track_answers::untouched;
 use easing::Eased;
 use easing::Easing;
 use keyframe::Track;
@@ -25,13 +26,13 @@ use units::Progress;
 use units::Seconds;
 use words::EasingRead;
 use words::LaxEasing;
-use words::LaxKeyframe;
 use words::LaxLoop;
 use words::LaxTrack;
 use words::LoopRead;
 use words::Quick;
 use words::easing_of;
 use words::easing_words;
+use words::frame_words;
 use words::is_known;
 use words::loop_of;
 use words::quick_value_at;
@@ -42,12 +43,7 @@ use words::track_words;
 pub extern "C" fn lax_track_new() -> LaxTrack
     ensures { λ r. ⌜ r ≡ laxTrackNew ⌝ }
 {
-    let blank = LaxKeyframe {
-        time: 0.0,
-        value: 0.0,
-        easing: easing_words(Easing::Linear),
-    };
-    let places = [blank; 64];
+    let places = [frame_words(frames::blank()); 64];
     track_words(places, Track::new())
 }
 
@@ -69,11 +65,11 @@ pub extern "C" fn lax_track_push_eased(
 {
     if is_known(w) {
         let EasingRead::Known(easing) = easing_of(e) else {
-            return refused(w, 100);
+            return untouched(w, UNKNOWN_WORD);
         };
         return track_changed_words(w, track_of(w).push_eased(time, value, easing));
     }
-    refused(w, 100)
+    untouched(w, UNKNOWN_WORD)
 }
 
 #[no_mangle]
@@ -82,11 +78,11 @@ pub extern "C" fn lax_track_looping(w: LaxTrack, mode: LaxLoop) -> LaxTrackChang
 {
     if is_known(w) {
         let LoopRead::Known(looping) = loop_of(mode) else {
-            return refused(w, 100);
+            return untouched(w, UNKNOWN_WORD);
         };
         return track_changed_words(w, track_of(w).looping(looping));
     }
-    refused(w, 100)
+    untouched(w, UNKNOWN_WORD)
 }
 
 #[no_mangle]
@@ -99,7 +95,7 @@ pub extern "C" fn lax_track_value_at(w: LaxTrack, secs: f32) -> LaxValue
     if is_known(w) {
         return value_words(track_of(w).value_at(Seconds(secs)));
     }
-    no_value(100)
+    no_value(UNKNOWN_WORD)
 }
 
 #[no_mangle]
@@ -109,7 +105,7 @@ pub extern "C" fn lax_track_value(w: LaxTrack) -> LaxValue
     if is_known(w) {
         return value_words(track_of(w).value());
     }
-    no_value(100)
+    no_value(UNKNOWN_WORD)
 }
 
 #[no_mangle]
@@ -119,7 +115,7 @@ pub extern "C" fn lax_track_active_time(w: LaxTrack) -> LaxValue
     if is_known(w) {
         return seconds_words(track_of(w).active_time());
     }
-    no_value(100)
+    no_value(UNKNOWN_WORD)
 }
 
 #[no_mangle]
@@ -129,7 +125,7 @@ pub extern "C" fn lax_track_duration(w: LaxTrack) -> LaxValue
     if is_known(w) {
         return seconds_words(track_of(w).duration());
     }
-    no_value(100)
+    no_value(UNKNOWN_WORD)
 }
 
 #[no_mangle]
@@ -139,7 +135,7 @@ pub extern "C" fn lax_track_playback_duration(w: LaxTrack) -> LaxValue
     if is_known(w) {
         return seconds_words(track_of(w).playback_duration());
     }
-    no_value(100)
+    no_value(UNKNOWN_WORD)
 }
 
 #[no_mangle]
@@ -149,7 +145,7 @@ pub extern "C" fn lax_track_progress(w: LaxTrack) -> LaxValue
     if is_known(w) {
         return progress_words(track_of(w).progress());
     }
-    no_value(100)
+    no_value(UNKNOWN_WORD)
 }
 
 #[no_mangle]
@@ -159,7 +155,7 @@ pub extern "C" fn lax_track_is_complete(w: LaxTrack) -> LaxFlag
     if is_known(w) {
         return completion_words(track_of(w).is_complete());
     }
-    no_flag(100)
+    no_flag(UNKNOWN_WORD)
 }
 
 #[no_mangle]
@@ -169,7 +165,7 @@ pub extern "C" fn lax_track_reset(w: LaxTrack) -> LaxTrackChanged
     if is_known(w) {
         return track_changed_words(w, track_of(w).reset());
     }
-    refused(w, 100)
+    untouched(w, UNKNOWN_WORD)
 }
 
 #[no_mangle]
@@ -179,7 +175,7 @@ pub extern "C" fn lax_track_seek_to(w: LaxTrack, p: f32) -> LaxTrackChanged
     if is_known(w) {
         return track_changed_words(w, track_of(w).seek_to(Progress(p)));
     }
-    refused(w, 100)
+    untouched(w, UNKNOWN_WORD)
 }
 
 #[no_mangle]
@@ -189,7 +185,7 @@ pub extern "C" fn lax_track_update(w: LaxTrack, step: f32) -> LaxTrackUpdated
     if is_known(w) {
         return track_updated_words(w, track_of(w).update(step));
     }
-    stood(w, 100)
+    not_stepped(w, UNKNOWN_WORD)
 }
 
 // The value at each time goes into the front of out.
@@ -205,6 +201,6 @@ pub extern "C" fn lax_track_values_at(w: LaxTrack, times: &[f32], out: &mut [f32
     }
     LaxFilled {
         filled: 0,
-        number: 100,
+        number: UNKNOWN_WORD,
     }
 }

@@ -8,13 +8,16 @@ use crate::answers::LaxRun;
 use crate::answers::LaxSnapshot;
 use crate::answers::LaxUpdated;
 use crate::answers::LaxValue;
+use crate::answers::UNKNOWN_WORD;
 use crate::answers::changed_words;
 use crate::answers::no_snapshot;
 use crate::answers::no_value;
+use crate::answers::not_updated;
 use crate::answers::progress_words;
 use crate::answers::run_words;
 use crate::answers::seconds_words;
 use crate::answers::snapshot_words;
+use crate::answers::unchanged;
 use crate::answers::updated_words;
 use crate::answers::value_words;
 use steps::run_steps;
@@ -38,7 +41,7 @@ pub extern "C" fn lax_tween_value(w: LaxTween) -> LaxValue
 {
     match tween_of(w) {
         TweenRead::Known(t) => value_words(t.value()),
-        TweenRead::Unknown => no_value(100),
+        TweenRead::Unknown => no_value(UNKNOWN_WORD),
     }
 }
 
@@ -48,7 +51,7 @@ pub extern "C" fn lax_tween_progress(w: LaxTween) -> LaxValue
 {
     match tween_of(w) {
         TweenRead::Known(t) => progress_words(t.progress()),
-        TweenRead::Unknown => no_value(100),
+        TweenRead::Unknown => no_value(UNKNOWN_WORD),
     }
 }
 
@@ -58,7 +61,7 @@ pub extern "C" fn lax_tween_eased_progress(w: LaxTween) -> LaxValue
 {
     match tween_of(w) {
         TweenRead::Known(t) => value_words(t.eased_progress()),
-        TweenRead::Unknown => no_value(100),
+        TweenRead::Unknown => no_value(UNKNOWN_WORD),
     }
 }
 
@@ -68,7 +71,7 @@ pub extern "C" fn lax_tween_snapshot(w: LaxTween) -> LaxSnapshot
 {
     match tween_of(w) {
         TweenRead::Known(t) => snapshot_words(t.snapshot()),
-        TweenRead::Unknown => no_snapshot(100),
+        TweenRead::Unknown => no_snapshot(UNKNOWN_WORD),
     }
 }
 
@@ -78,7 +81,7 @@ pub extern "C" fn lax_tween_playback_duration(w: LaxTween) -> LaxValue
 {
     match tween_of(w) {
         TweenRead::Known(t) => seconds_words(t.playback_duration()),
-        TweenRead::Unknown => no_value(100),
+        TweenRead::Unknown => no_value(UNKNOWN_WORD),
     }
 }
 
@@ -88,10 +91,7 @@ pub extern "C" fn lax_tween_reset(w: LaxTween) -> LaxChanged
 {
     match tween_of(w) {
         TweenRead::Known(t) => changed_words(w, t.reset()),
-        TweenRead::Unknown => LaxChanged {
-            number: 100,
-            tween: w,
-        },
+        TweenRead::Unknown => unchanged(w, UNKNOWN_WORD),
     }
 }
 
@@ -101,10 +101,7 @@ pub extern "C" fn lax_tween_seek(w: LaxTween, p: f32) -> LaxChanged
 {
     match tween_of(w) {
         TweenRead::Known(t) => changed_words(w, t.seek(Progress(p))),
-        TweenRead::Unknown => LaxChanged {
-            number: 100,
-            tween: w,
-        },
+        TweenRead::Unknown => unchanged(w, UNKNOWN_WORD),
     }
 }
 
@@ -114,10 +111,7 @@ pub extern "C" fn lax_tween_reverse(w: LaxTween) -> LaxChanged
 {
     match tween_of(w) {
         TweenRead::Known(t) => changed_words(w, t.reverse()),
-        TweenRead::Unknown => LaxChanged {
-            number: 100,
-            tween: w,
-        },
+        TweenRead::Unknown => unchanged(w, UNKNOWN_WORD),
     }
 }
 
@@ -127,10 +121,7 @@ pub extern "C" fn lax_tween_pause(w: LaxTween) -> LaxChanged
 {
     match tween_of(w) {
         TweenRead::Known(t) => changed_words(w, t.pause()),
-        TweenRead::Unknown => LaxChanged {
-            number: 100,
-            tween: w,
-        },
+        TweenRead::Unknown => unchanged(w, UNKNOWN_WORD),
     }
 }
 
@@ -140,10 +131,7 @@ pub extern "C" fn lax_tween_resume(w: LaxTween) -> LaxChanged
 {
     match tween_of(w) {
         TweenRead::Known(t) => changed_words(w, t.resume()),
-        TweenRead::Unknown => LaxChanged {
-            number: 100,
-            tween: w,
-        },
+        TweenRead::Unknown => unchanged(w, UNKNOWN_WORD),
     }
 }
 
@@ -153,12 +141,7 @@ pub extern "C" fn lax_tween_update(w: LaxTween, step: f32) -> LaxUpdated
 {
     match tween_of(w) {
         TweenRead::Known(t) => updated_words(w, t.update(step)),
-        TweenRead::Unknown => LaxUpdated {
-            number: 100,
-            folds: 0,
-            running: 0,
-            tween: w,
-        },
+        TweenRead::Unknown => not_updated(w, UNKNOWN_WORD),
     }
 }
 
@@ -181,7 +164,7 @@ pub extern "C" fn lax_tween_run(
         }
         TweenRead::Unknown => LaxRun {
             done: 0,
-            number: 100,
+            number: UNKNOWN_WORD,
             tween: w,
         },
     }

@@ -2,7 +2,7 @@
 use mathlib.Core.Bool.{Bool, true, false, not, _&&_}
 use mathlib.Core.List.{List, [], _∷_}
 use lib.Ieee.{Float, nan, inf, fin, lt, le}
-use Rattle.math.specs.Rounded.{f32, topF}
+use Rattle.math.specs.Rounded.{f32, zeroF, topF}
 use Rattle.math.specs.Range.{valueOf}
 use Rattle.easing.specs.Apply.{fitsRecordOf}
 use Rattle.easing.specs.declared.kinds.Easing.the-variants.{Linear}
@@ -33,6 +33,10 @@ beforeAll = f32 0xbf80_0000
 
 abbrev pub framesOf : List Keyframe → Bool
 framesOf l = framesAfter beforeAll l
+
+-- what a place holds that never had a frame
+abbrev pub blank : Keyframe
+blank = record { time = zeroF; value = zeroF; easing = Linear }
 
 -- what stands past the end of a list, for `getD`
 abbrev pub noFrame : Keyframe

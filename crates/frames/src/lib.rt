@@ -11,6 +11,7 @@ pub use filling::fill;
 pub use filling::sample;
 pub use frame::Keyframe;
 pub use frame::Put;
+pub use limits::blank;
 pub use limits::is_time;
 pub use pushing::put;
 pub use sampling::along;

@@ -1,7 +1,8 @@
-// The limits of a frame.
+// The limits of a frame, and the frame that stands where there is none.
 ghost use mathlib.Core.Path.{_≡_};
-ghost use Rattle.frames.specs.Limits.{timeOf, frameOf};
+ghost use Rattle.frames.specs.Limits.{timeOf, frameOf, blank};
 use crate::frame::Keyframe;
+use easing::Easing;
 
 // Finite, from +0 to 16,777,216 seconds: -0 is none.
 pub fn is_time(t: f32) -> bool
@@ -19,5 +20,16 @@ impl Keyframe {
     {
         let easing = self.easing;
         is_time(self.time) & math::is_value(self.value) & easing.fits_record()
+    }
+}
+
+// What a place holds that never had a frame.
+pub fn blank() -> Keyframe
+    ensures { λ r. ⌜ r ≡ blank ⌝ }
+{
+    Keyframe {
+        time: 0.0,
+        value: 0.0,
+        easing: Easing::Linear,
     }
 }

@@ -23,7 +23,7 @@ use Rattle.tween.specs.declared.answers.Updated.the-variants.{Ran, Refused}
 use Rattle.tween.specs.Parts.{put}
 use Rattle.tween.specs.Limits.{withinOf}
 use Rattle.tween.specs.Folds.{due, foldsOf}
-use Rattle.tween.specs.Update.{beginAt, afterFolds, advanced, waiting, waitOf, runOf, byState, updateOf}
+use Rattle.tween.specs.Update.{beginAt, afterFolds, advanced, waiting, lostOf, waitOf, runOf, byState, updateOf}
 use Rattle.tween.proofs.Ways.{not-due, foldedFrom, by-advanced}
 use Rattle.history.specs.History.{whole, counts}
 use Rattle.history.proofs.Folding.{Below, Counted, FoldedTo, all-keep}
@@ -103,7 +103,7 @@ module _ (l : Loop) (D W s H A F n : ℕ) (t : Tween) (small : n ≤ 524288) (i 
     run-keeps : Under l D W H A F t → Next (runOf t x (t .elapsed ⊕ x ⊗ t .«time_scale»))
     unfolding runOf
     run-keeps (k, (e, E, a, d, o, q)) =
-        by-test Next (lt zeroF x && lt zeroF (t .«time_scale») && lt (t .elapsed) (t .duration) && eq (t .elapsed ⊕ x ⊗ t .«time_scale») (t .elapsed)) _ _ (λ _. i)
+        by-test Next (lostOf Running t x (t .elapsed ⊕ x ⊗ t .«time_scale»)) _ _ (λ _. i)
         (λ _. sum-keeps x e n E X d (omega arith) (t .«delay_elapsed») (H + n) (omega arith) (omega arith) a o q)
 
     wait-keeps : At Idle l D W H A F t → Next (waitOf t x (t .«delay_elapsed» ⊕ x))
@@ -115,7 +115,7 @@ module _ (l : Loop) (D W s H A F n : ℕ) (t : Tween) (small : n ≤ 524288) (i 
         let d-is : Is d W = delay-value t D W s (i .settings) (omega arith) in
         let sum-is : Is w (H + n) = add-exact binary32 (t .«delay_elapsed») x H n w-is X (omega (arith, small)) in
         let none : D * F ≡ 0 = rw f (omega arith) in
-        by-test Next (lt zeroF x && eq w (t .«delay_elapsed»)) _ _ (λ _. i)
+        by-test Next (lostOf Idle t x w) _ _ (λ _. i)
         (λ _.
         by-test Next (lt w d) _ _
         (λ g.

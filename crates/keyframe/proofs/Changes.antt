@@ -2,6 +2,8 @@
 use mathlib.Core.Path.{_≡_}
 use mathlib.Core.Bool.{Bool, true, false}
 use lib.Ieee.{Float}
+use Rattle.math.proofs.Choice.{by-test}
+use Rattle.refusal.specs.declared.Refusal.{Refusal}
 use Rattle.refusal.specs.declared.Refusal.the-variants.{RecordBreaksLimit, EasingNotSupplied, EasingParameter, TrackLimit}
 use Rattle.easing.specs.declared.kinds.Easing.{Easing}
 use Rattle.easing.specs.Kinds.{suppliedOf}
@@ -10,6 +12,7 @@ use Rattle.easing.specs.Apply.{fitsRecordOf}
 use Rattle.loop_mode.specs.declared.Loop.{Loop}
 use Rattle.frames.specs.Pushing.{putOf}
 use Rattle.keyframe.specs.declared.types.Track.{Track}
+use Rattle.keyframe.specs.declared.types.Changed.{Changed}
 use Rattle.keyframe.specs.Limits.{baseOf, modeFits, withinOf}
 use Rattle.keyframe.specs.Pushing.{refused, changed, storedOf, takesOf, withMode, placedOf, pushOf, loopingOf}
 
@@ -41,6 +44,22 @@ module _ (t : Track) (time value : Float) (e : Easing) where
         pub push-placed : takesOf t (storedOf time) value ≡ true → placedOf t (putOf (t .frames) (t .count) (record { time = storedOf time; value = value; easing = e })) ≡ pushOf t time value e
         unfolding pushOf
         push-placed k = rw (w, s, p, k)
+
+-- a push is refused, or the frame is placed
+pub by-push : (C : Changed → Type 0) (t : Track) (time value : Float) (e : Easing) → ((r : Refusal) → C (refused t r))
+    → (suppliedOf e ≡ true → params.withinOf (params.paramsOf e) ≡ true → takesOf t (storedOf time) value ≡ true
+    → C (placedOf t (putOf (t .frames) (t .count) (record { time = storedOf time; value = value; easing = e })))) → C (pushOf t time value e)
+unfolding pushOf
+by-push C t time value e refuse place =
+    by-test C (withinOf t) _ _
+    (λ _.
+    by-test C (suppliedOf e) _ _
+    (λ s.
+    by-test C (params.withinOf (params.paramsOf e)) _ _
+    (λ p. by-test C (takesOf t (storedOf time) value) _ _ (λ k. place s p k) (λ _. refuse TrackLimit))
+    (λ _. refuse EasingParameter))
+    (λ _. refuse EasingNotSupplied))
+    (λ _. refuse RecordBreaksLimit)
 
 module _ (t : Track) (m : Loop) where
   pub mode-broken : withinOf t ≡ false → refused t RecordBreaksLimit ≡ loopingOf t m

@@ -42,9 +42,10 @@ use Rattle.keyframe.specs.declared.types.End.{End}
 use Rattle.keyframe.specs.declared.types.End.the-variants.{At, Never}
 use Rattle.keyframe.specs.Limits.{framesIn, baseOf, overPasses, endOf, modeFits, clockFits, withinOf, Fine}
 use Rattle.keyframe.specs.Pushing.{newTrack, storedOf, laterOf, takesOf, withFrames, withMode, placedOf, pushOf, loopingOf}
-use Rattle.keyframe.specs.Playback.{doneOf}
-use Rattle.keyframe.specs.Stepping.{movedOf, lostOf, advanceOf, updateOf, resetOf, spanIn, soughtOf, seekToOf}
+use Rattle.keyframe.specs.Stepping.{movedOf, advanceOf, updateOf, resetOf, spanIn, soughtOf, seekToOf}
 use Rattle.keyframe.proofs.Records.{few-frames, frames-fine, elapsed-fine, mode-fine}
+use Rattle.keyframe.proofs.Changes.{by-push}
+use Rattle.keyframe.proofs.Moves.{by-update}
 
 make : (t : Track) → t .count ≤ 64 → framesOf (framesIn t) ≡ true → Clock (t .elapsed) → modeFits (t .looping) (baseOf t) ≡ true → Fine t
 unfolding withinOf clockFits
@@ -59,12 +60,19 @@ zero-clock : Clock zeroF
 unfolding le lt eq ofBits
 zero-clock = (tt, tt)
 
-passes-clock : (base : Float) (n : ℕ) → Clock base → leb n 65535 ≡ true → Up (overPasses base n)
+passes-up : (base : Float) (n : ℕ) → Clock base → leb n 65535 ≡ true → Up (overPasses base n)
+passes-up base n c h =
+    let m = passes.passesOf n in
+    let k = ofInt binary32 (pos m) in
+    let l : m ≤ 65535 = by-test (λ (m : ℕ). m ≤ 65535) (eqb n 0) 1 n (λ _. lit≤ tt) (λ _. leb-true n 65535 h) in
+    let v : Is k m = whole-is binary32 m (omega (arith, l)) in
+    let u : Up k = subst⁻¹ T (le-is zeroF k 0 m zero-is v) (le→leb 0 m (omega arith)) in
+    mul-up binary32 base k (clock-finite base c) (at-most-finite m k (is-at-most k m m v (le-refl m))) (c .0) u
+
+passes-clock : (base : Float) (n : ℕ) → Clock base → leb n 65535 && le (overPasses base n) topF ≡ true → Clock (overPasses base n)
 passes-clock base n c h =
-    let l : passes.passesOf n ≤ 65535 = by-test (λ (m : ℕ). m ≤ 65535) (eqb n 0) 1 n (λ _. lit≤ tt) (λ _. leb-true n 65535 h) in
-    let v : Is (ofInt binary32 (pos (passes.passesOf n))) (passes.passesOf n) = whole-is binary32 (passes.passesOf n) (omega (arith, l)) in
-    let u : Up (ofInt binary32 (pos (passes.passesOf n))) = subst⁻¹ T (le-is zeroF (ofInt binary32 (pos (passes.passesOf n))) 0 (passes.passesOf n) zero-is v) (le→leb 0 (passes.passesOf n) (omega arith)) in
-    mul-up binary32 base (ofInt binary32 (pos (passes.passesOf n))) (clock-finite base c) (at-most-finite (passes.passesOf n) (ofInt binary32 (pos (passes.passesOf n))) (is-at-most (ofInt binary32 (pos (passes.passesOf n))) (passes.passesOf n) (passes.passesOf n) v (le-refl (passes.passesOf n)))) (c .0) u
+    let b = and-both (leb n 65535) (le (overPasses base n) topF) h in
+    (passes-up base n c (b .0), holds (le (overPasses base n) topF) (b .1))
 
 -- where playback ends, it ends in time
 abbrev Timely : End → Type 0
@@ -74,14 +82,10 @@ Timely Never = Unit {0}
 end-timely : (m : Loop) (base : Float) → Clock base → modeFits m base ≡ true → Timely (endOf m base)
 unfolding modeFits endOf passes.withinOf
 end-timely Once base c h = c
-end-timely (Times n) base c h =
-    let b = and-both (leb n 65535) (le (overPasses base n) topF) h in
-    (passes-clock base n c (b .0), holds (le (overPasses base n) topF) (b .1))
+end-timely (Times n) base c h = passes-clock base n c h
 end-timely Forever base c h = tt
 end-timely PingPong base c h = tt
-end-timely (PingPongTimes n) base c h =
-    let b = and-both (leb n 65535) (le (overPasses base n) topF) h in
-    (passes-clock base n c (b .0), holds (le (overPasses base n) topF) (b .1))
+end-timely (PingPongTimes n) base c h = passes-clock base n c h
 
 duration-clock : (l : List Keyframe) → framesOf l ≡ true → Clock (durationOf l)
 unfolding durationOf
@@ -116,15 +120,9 @@ module _ (t : Track) (fine : Fine t) where
       top-number = le-numbers zeroF topF (zero-clock .1) .1
 
   pub update-within : (dt : Float) → Fine (updateOf t dt .track)
-  unfolding updateOf
   update-within dt =
-      rw fine
-      (by-test (λ (r : Updated). Fine (r .track)) (lt topF dt) _ _ (λ _. fine)
-      (λ _.
-      by-test (λ (r : Updated). Fine (r .track)) (doneOf t) _ _ (λ _. fine)
-      (λ _.
-      by-test (λ (r : Updated). Fine (r .track)) (lostOf (t .elapsed) (maxZeroOf dt)) _ _ (λ _. fine)
-      (λ _. advance-within (endOf (t .looping) (baseOf t)) timely (t .elapsed ⊕ maxZeroOf dt) (add-up binary32 (t .elapsed) (maxZeroOf dt) (test-clock (t .elapsed) (elapsed-fine t fine) .0) (max-zero-up dt))))))
+      by-update (λ (r : Updated). Fine (r .track)) t dt (λ _. fine) (λ _. fine)
+      (λ _. advance-within (endOf (t .looping) (baseOf t)) timely (t .elapsed ⊕ maxZeroOf dt) (add-up binary32 (t .elapsed) (maxZeroOf dt) (test-clock (t .elapsed) (elapsed-fine t fine) .0) (max-zero-up dt)))
 
   pub reset-within : Fine (resetOf t .track)
   unfolding resetOf
@@ -179,15 +177,10 @@ module _ (t : Track) (fine : Fine t) (k : Keyframe) (good : frameOf k ≡ true) 
       (λ _. fine)
 
 pub push-within : (t : Track) → Fine t → (time value : Float) (e : Easing) → Fine (pushOf t time value e .track)
-unfolding pushOf takesOf frameOf fitsRecordOf
+unfolding takesOf frameOf fitsRecordOf
 push-within t fine time value e =
-    rw fine
-    (by-test (λ (r : Changed). Fine (r .track)) (suppliedOf e) _ _
-    (λ s.
-    by-test (λ (r : Changed). Fine (r .track)) (params.withinOf (params.paramsOf e)) _ _
-    (λ p. by-test (λ (r : Changed). Fine (r .track)) (takesOf t (storedOf time) value) _ _ (λ h. placed-within t fine (record { time = storedOf time; value = value; easing = e }) (framed (storedOf time) h s p) (fitting (storedOf time) h)) (λ _. fine))
-    (λ _. fine))
-    (λ _. fine))
+    by-push (λ (r : Changed). Fine (r .track)) t time value e (λ _. fine)
+    (λ s p h. placed-within t fine (record { time = storedOf time; value = value; easing = e }) (framed (storedOf time) h s p) (fitting (storedOf time) h))
   where
     framed : (x : Float) → takesOf t x value ≡ true → suppliedOf e ≡ true → params.withinOf (params.paramsOf e) ≡ true → frameOf (record { time = x; value = value; easing = e }) ≡ true
     framed x h s p =

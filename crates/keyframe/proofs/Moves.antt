@@ -4,8 +4,11 @@ use mathlib.Core.Bool.{true, false}
 use lib.Ieee.{Float, lt, le, isNan}
 use Rattle.math.specs.Rounded.{_⊕_, topF}
 use Rattle.math.specs.Range.{clamp01Of, maxZeroOf}
+use Rattle.math.proofs.Choice.{by-test}
+use Rattle.refusal.specs.declared.Refusal.{Refusal}
 use Rattle.refusal.specs.declared.Refusal.the-variants.{ProgressIsNan, RecordBreaksLimit, StepTooLong, StepLost, ElapsedTooLong}
 use Rattle.keyframe.specs.declared.types.Track.{Track}
+use Rattle.keyframe.specs.declared.types.Updated.{Updated}
 use Rattle.keyframe.specs.declared.types.End.the-variants.{At, Never}
 use Rattle.keyframe.specs.Limits.{baseOf, endOf, withinOf}
 use Rattle.keyframe.specs.Playback.{doneOf}
@@ -54,6 +57,17 @@ module _ (t : Track) (dt : Float) where
         pub step-taken : lostOf (t .elapsed) (maxZeroOf dt) ≡ false → advanceOf (endOf (t .looping) (baseOf t)) t (t .elapsed ⊕ maxZeroOf dt) ≡ updateOf t dt
         unfolding updateOf
         step-taken l = rw (w, h, d, l)
+
+-- an update is refused, changes nothing, or takes its step
+pub by-update : (C : Updated → Type 0) (t : Track) (dt : Float) → ((r : Refusal) → C (halted t r)) → (doneOf t ≡ true → C (ran t false))
+    → (doneOf t ≡ false → C (advanceOf (endOf (t .looping) (baseOf t)) t (t .elapsed ⊕ maxZeroOf dt))) → C (updateOf t dt)
+unfolding updateOf
+by-update C t dt refuse done take =
+    by-test C (withinOf t) _ _
+    (λ _.
+    by-test C (lt topF dt) _ _ (λ _. refuse StepTooLong)
+    (λ _. by-test C (doneOf t) _ _ done (λ d. by-test C (lostOf (t .elapsed) (maxZeroOf dt)) _ _ (λ _. refuse StepLost) (λ _. take d))))
+    (λ _. refuse RecordBreaksLimit)
 
 module _ (t : Track) (p : Float) where
   pub seek-broken : withinOf t ≡ false → refused t RecordBreaksLimit ≡ seekToOf t p

@@ -1,7 +1,7 @@
 -- What a track promises: ascending times, finite values, the value that was pushed, the ends, and what `running` says. Assumes nothing.
 use Prim.Native.Nat.{ℕ, _<_}
 use mathlib.Core.Path.{_≡_, refl, sym, ap, _∙_, subst, subst⁻¹}
-use mathlib.Core.Bool.{Bool, true, false, not, cond, _||_}
+use mathlib.Core.Bool.{Bool, true, false, not, cond, _||_, or-true}
 use mathlib.Core.List.{List, _++_}
 use native.Mathlib.Omega.{arith}
 use lib.Dec.{T, leb, ltb, eqb}
@@ -13,10 +13,8 @@ use Rattle.math.specs.Range.{finiteOf, maxZeroOf}
 use Rattle.math.proofs.Choice.{by-test}
 use Rattle.math.proofs.Order.{not-lt-of-le}
 use Rattle.refusal.specs.declared.Refusal.{Refusal}
-use Rattle.refusal.specs.declared.Refusal.the-variants.{EasingNotSupplied, EasingParameter, RecordBreaksLimit, StepTooLong, StepLost, ElapsedTooLong, TrackLimit, TrackFull}
+use Rattle.refusal.specs.declared.Refusal.the-variants.{ElapsedTooLong, TrackFull}
 use Rattle.easing.specs.declared.kinds.Easing.{Easing}
-use Rattle.easing.specs.Kinds.{suppliedOf}
-use Rattle.easing.specs.Params as params
 use Rattle.frames.specs.declared.frame.Keyframe.{Keyframe}
 use Rattle.frames.specs.declared.frame.Put.{Put}
 use Rattle.frames.specs.Limits.{framesOf, beforeAll, noFrame}
@@ -33,11 +31,13 @@ use Rattle.keyframe.specs.declared.types.Updated.{Updated}
 use Rattle.keyframe.specs.declared.types.Stepped.the-variants as stepped
 use Rattle.keyframe.specs.declared.types.End.{End}
 use Rattle.keyframe.specs.declared.types.End.the-variants.{At, Never}
-use Rattle.keyframe.specs.Limits.{framesIn, baseOf, endOf, withinOf, Fine}
+use Rattle.keyframe.specs.Limits.{framesIn, baseOf, endOf, Fine}
 use Rattle.keyframe.specs.Playback.{doneOf}
-use Rattle.keyframe.specs.Stepping.{movedOf, ran, lostOf, finalOf, passedOf, advanceOf, updateOf}
-use Rattle.keyframe.specs.Pushing.{storedOf, takesOf, placedOf, pushOf}
+use Rattle.keyframe.specs.Stepping.{movedOf, ran, finalOf, passedOf, advanceOf, updateOf}
+use Rattle.keyframe.specs.Pushing.{storedOf, placedOf, pushOf}
 use Rattle.keyframe.proofs.Records.{frames-fine}
+use Rattle.keyframe.proofs.Changes.{by-push}
+use Rattle.keyframe.proofs.Moves.{by-update}
 use Rattle.keyframe.proofs.Kept.{push-within}
 
 zero-below : lt zeroF zeroF ≡ false
@@ -77,18 +77,11 @@ placed-sampled t k F =
 
 pub push-sampled : (t : Track) → Fine t → (time value : Float) (e : Easing) → T (fits binary32 value) → pushOf t time value e .outcome ≡ Done
     → eq (sampleOf (framesIn (pushOf t time value e .track)) time) value ≡ true
-unfolding pushOf
 push-sampled t fine time value e F h = subst (λ (x : Float). eq x value ≡ true) (stored-same (framesIn (pushOf t time value e .track)) time) (sampled h (push-within t fine time value e))
   where
     sampled : Sampled (storedOf time) value (pushOf t time value e)
     sampled =
-        rw fine
-        (by-test (Sampled (storedOf time) value) (suppliedOf e) _ _
-        (λ _.
-        by-test (Sampled (storedOf time) value) (params.withinOf (params.paramsOf e)) _ _
-        (λ _. by-test (Sampled (storedOf time) value) (takesOf t (storedOf time) value) _ _ (λ _. placed-sampled t (record { time = storedOf time; value = value; easing = e }) F) (λ _ h _. never TrackLimit h))
-        (λ _ h _. never EasingParameter h))
-        (λ _ h _. never EasingNotSupplied h))
+        by-push (Sampled (storedOf time) value) t time value e (λ r h _. never r h) (λ _ _ _. placed-sampled t (record { time = storedOf time; value = value; easing = e }) F)
 
 module _ (t : Track) (fine : Fine t) where
   pub ascending : (i j : ℕ) → i < j → j < length (framesIn t) → T (lt (getD (framesIn t) i noFrame .time) (getD (framesIn t) j noFrame .time))
@@ -118,10 +111,6 @@ ran-told t running e b h =
     let s : running ≡ b = cc in
     sym s ∙ e
 
-or-true : (b : Bool) → b || true ≡ true
-or-true true = refl
-or-true false = refl
-
 -- not done: two frames or more
 goes : (t : Track) → doneOf t ≡ false → (e : Float) (c : ℕ) → doneOf (movedOf t e c false) ≡ false
 goes t h e c = go (ltb (t .count) 2) h
@@ -140,15 +129,9 @@ advance-told t h Never sum =
     (λ _. ran-told (movedOf t sum (passedOf t sum) false) true (sym (ap not (goes t h sum (passedOf t sum)))))
 
 update-told : (t : Track) (dt : Float) → Told (updateOf t dt)
-unfolding updateOf
 update-told t dt =
-    by-test Told (withinOf t) _ _
-    (λ _.
-    by-test Told (lt topF dt) _ _ (λ _ b k. unlike b StepTooLong k)
-    (λ _.
-    by-test Told (doneOf t) _ _ (λ h. ran-told t false (sym (ap not h)))
-    (λ h. by-test Told (lostOf (t .elapsed) (maxZeroOf dt)) _ _ (λ _ b k. unlike b StepLost k) (λ _. advance-told t h (endOf (t .looping) (baseOf t)) (t .elapsed ⊕ maxZeroOf dt)))))
-    (λ _ b k. unlike b RecordBreaksLimit k)
+    by-update Told t dt (λ r b k. unlike b r k) (λ h. ran-told t false (sym (ap not h)))
+    (λ h. advance-told t h (endOf (t .looping) (baseOf t)) (t .elapsed ⊕ maxZeroOf dt))
 
 -- `running` after an update: not complete, and two frames or more
 pub running : (t : Track) (dt : Float) (b : Bool) → updateOf t dt .stepped ≡ stepped.Ran b → b ≡ not (doneOf (updateOf t dt .track))

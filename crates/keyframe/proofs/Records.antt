@@ -1,7 +1,7 @@
 -- The limits of a track, test by test. Assumes nothing.
 use Prim.Native.Nat.{ℕ, _+_, _-_, _<_, _≤_}
-use mathlib.Core.Path.{_≡_, refl, sym, _∙_}
-use mathlib.Core.Bool.{Bool, true, false, _&&_}
+use mathlib.Core.Path.{_≡_, sym, _∙_}
+use mathlib.Core.Bool.{Bool, true, false, _&&_, and-true}
 use mathlib.Core.List.{List}
 use native.Mathlib.Omega.{arith}
 use lib.Dec.{leb}
@@ -41,10 +41,6 @@ module _ (m : Loop) (base : Float) where
   pub goes-on : Never ≡ endOf m base → (b : Bool) → b ≡ passes.withinOf m → b ≡ modeFits m base
   unfolding modeFits
   goes-on e b h = rw (← e, h) (sym (and-true (passes.withinOf m)))
-    where
-      and-true : (b : Bool) → b && true ≡ b
-      and-true true = refl
-      and-true false = refl
 
 -- the frames
 module _ (fs : List Keyframe) (n : ℕ) (fit : n ≤ length fs) where

@@ -23,6 +23,7 @@ use Rattle.keyframe.specs.declared.types.End.the-variants.{At, Never}
 abbrev pub framesIn : Track → List Keyframe
 framesIn t = take (t .count) (t .frames)
 
+-- the last time, which is what one pass takes
 abbrev pub baseOf : Track → Float
 baseOf t = durationOf (framesIn t)
 

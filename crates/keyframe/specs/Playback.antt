@@ -1,8 +1,8 @@
 -- Document 01, "The track": "`active_time`, `progress`, .. as in the source". The expressions and their order are those of `keyframe.rs`.
-use mathlib.Core.Bool.{Bool, cond, _||_}
+use mathlib.Core.Bool.{Bool, false, cond, _||_}
 use lib.Dec.{ltb}
-use lib.Ieee.{Float, binary32, rem, le, eq}
-use Rattle.math.specs.Rounded.{_⊖_, _⊗_, _⊘_, f32, zeroF, oneF, twoF}
+use lib.Ieee.{Float, inf, binary32, rem, le, eq}
+use Rattle.math.specs.Rounded.{_⊖_, _⊗_, _⊘_, zeroF, oneF, twoF}
 use Rattle.math.specs.Range.{clamp01Of}
 use Rattle.refusal.specs.declared.Refusal.the-variants.{RecordBreaksLimit}
 use Rattle.units.specs.declared.InSeconds.{InSeconds}
@@ -54,7 +54,7 @@ durationIn t = inSeconds t (baseOf t)
 -- all passes: infinite in the modes without an end, and 0 where a pass takes no time
 abbrev pub playbackOf : End → Float → Float
 playbackOf (At total) base = total
-playbackOf Never base = cond (eq base zeroF) zeroF (f32 0x7f80_0000)
+playbackOf Never base = cond (eq base zeroF) zeroF (inf false)
 
 unfoldable pub playbackIn : Track → InSeconds
 playbackIn t = inSeconds t (playbackOf (endOf (t .looping) (baseOf t)) (baseOf t))

@@ -9,14 +9,13 @@ use Rattle.math.specs.Range.{valueOf}
 use Rattle.refusal.specs.declared.Refusal.{Refusal}
 use Rattle.refusal.specs.declared.Refusal.the-variants.{RecordBreaksLimit, EasingNotSupplied, EasingParameter, TrackLimit, TrackFull}
 use Rattle.easing.specs.declared.kinds.Easing.{Easing}
-use Rattle.easing.specs.declared.kinds.Easing.the-variants.{Linear}
 use Rattle.easing.specs.Kinds.{suppliedOf}
 use Rattle.easing.specs.Params as params
 use Rattle.loop_mode.specs.declared.Loop.{Loop}
 use Rattle.loop_mode.specs.declared.Loop.the-variants.{Once}
 use Rattle.frames.specs.declared.frame.Keyframe.{Keyframe}
 use Rattle.frames.specs.declared.frame.Put.{Put}
-use Rattle.frames.specs.Limits.{timeOf}
+use Rattle.frames.specs.Limits.{timeOf, blank}
 use Rattle.frames.specs.Pushing.{putOf}
 use Rattle.keyframe.specs.declared.types.Track.{Track}
 use Rattle.keyframe.specs.declared.types.Changed.{Changed}
@@ -35,7 +34,7 @@ changed t = record { track = t; outcome = Done }
 unfoldable pub newTrack : Track
 newTrack =
     record {
-      frames = replicate 64 (record { time = zeroF; value = zeroF; easing = Linear });
+      frames = replicate 64 blank;
       count = 0;
       elapsed = zeroF;
       looping = Once;
@@ -56,27 +55,22 @@ unfoldable pub takesOf : Track → Float → Float → Bool
 takesOf t time value = timeOf time && valueOf value && modeFits (t .looping) (laterOf (baseOf t) time)
 
 -- "push and a change of mode clear completion and keep elapsed, loop_count and the places behind the frames"
-abbrev pub withFrames : Track → List Keyframe → ℕ → Track
-withFrames t fs n =
+abbrev pub remade : Track → List Keyframe → ℕ → Loop → Track
+remade t fs n m =
     record {
       frames = fs;
       count = n;
-      elapsed = t .elapsed;
-      looping = t .looping;
-      «loop_count» = t .«loop_count»;
-      complete = false;
-    }
-
-abbrev pub withMode : Track → Loop → Track
-withMode t m =
-    record {
-      frames = t .frames;
-      count = t .count;
       elapsed = t .elapsed;
       looping = m;
       «loop_count» = t .«loop_count»;
       complete = false;
     }
+
+abbrev pub withFrames : Track → List Keyframe → ℕ → Track
+withFrames t fs n = remade t fs n (t .looping)
+
+abbrev pub withMode : Track → Loop → Track
+withMode t m = remade t (t .frames) (t .count) m
 
 -- 9: "push into a full track at a time no frame has"
 unfoldable pub placedOf : Track → Put → Changed

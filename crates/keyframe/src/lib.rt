@@ -11,7 +11,6 @@ mod types;
 pub use limits::clock_fits;
 pub use types::Changed;
 pub use types::Completion;
-pub use types::End;
 pub use types::Outcome;
 pub use types::Stepped;
 pub use types::Track;

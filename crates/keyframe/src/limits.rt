@@ -73,6 +73,7 @@ impl Track {
                 return false;
             }
         }
+        // Not by `last_time`, which would copy the track once more.
         let looping = self.looping;
         if n == 0 {
             return clock_fits(self.elapsed, looping, 0.0);

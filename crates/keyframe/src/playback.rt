@@ -62,7 +62,7 @@ fn playback(end: End, base: f32) -> f32
             if base == 0.0 {
                 return 0.0;
             }
-            f32::from_bits(0x7f80_0000)
+            math::infinity()
         }
     }
 }

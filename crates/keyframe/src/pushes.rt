@@ -62,12 +62,7 @@ impl Track {
     pub fn new() -> Track
         ensures { λ r. ⌜ r ≡ newTrack ⌝ }
     {
-        let blank = Keyframe {
-            time: 0.0,
-            value: 0.0,
-            easing: Easing::Linear,
-        };
-        let frames = [blank; 64];
+        let frames = [frames::blank(); 64];
         Track {
             frames,
             count: 0,

@@ -16,11 +16,7 @@ use Rattle.tween.specs.Limits.{withinOf}
 use Rattle.steps.specs.declared.take.Taken.the-variants.{Took, Stops}
 use Rattle.steps.specs.declared.run.Outcome.{Outcome}
 use Rattle.steps.specs.declared.run.Outcome.the-variants.{Finished, Refused}
-use Rattle.steps.specs.Course.{stepOf, Course, stopped, courseOf, runOf, answerOf, over}
-
--- a course that takes no step
-abbrev still : Tween → Outcome → Course
-still t o = record { tween = t; values = []; folds = []; outcome = o }
+use Rattle.steps.specs.Course.{stepOf, Course, ended, stopped, courseOf, runOf, answerOf, over}
 
 -- values and folds that come before those of a course
 abbrev behind : List Float → List ℕ → Course → Course
@@ -70,7 +66,7 @@ module _ (steps values₀ : List Float) (folds₀ : List ℕ) (t₀ : Tween) whe
         }
 
     -- the run ends here
-    ends : (o : Outcome) → courseOf (drop i steps) t ≡ still t o
+    ends : (o : Outcome) → courseOf (drop i steps) t ≡ ended t o
         → (record { tween = t; done = i; outcome = o } ≡ answerOf (courseOf steps t₀)) × (values ≡ over (courseOf steps t₀ .values) values₀) × (folds ≡ over (courseOf steps t₀ .folds) folds₀)
     ends o e = rw (s .course-is, e, append-nil (s .front), append-nil (s .counts), s .values-are .0, s .folds-are .0) (refl, s .values-are .1, s .folds-are .1)
 

@@ -18,7 +18,7 @@ use Rattle.tween.specs.declared.update.Glided.the-variants.{To}
 use Rattle.tween.specs.Limits.{settingsWithin, clockWithin, withinOf}
 use Rattle.tween.specs.Calls.{valueOf}
 use Rattle.tween.specs.Update.{updateOf}
-use Rattle.tween.specs.Gliding.{Glides}
+use Rattle.tween.specs.Inner.{Glides}
 use Rattle.tween.proofs.Glides.{placed, goes-to}
 use Rattle.tween.proofs.KeptByUpdate.{update-within}
 use Rattle.tween.proofs.Valued.{value-answers}

@@ -41,9 +41,13 @@ pub record Course : Type 0 where
   pub folds : List ℕ
   pub outcome : Outcome
 
+-- nothing taken
+abbrev pub ended : Tween → Outcome → Course
+ended t o = record { tween = t; values = []; folds = []; outcome = o }
+
 -- nothing taken, and refused
 abbrev pub stopped : Tween → Refusal → Course
-stopped t r = record { tween = t; values = []; folds = []; outcome = Refused r }
+stopped t r = ended t (Refused r)
 
 -- a step that was taken, and the rest; or the first refusal, with the tween as it stood
 abbrev pub followed : Taken → Tween → (Tween → Course) → Course
@@ -51,7 +55,7 @@ followed (Took u v k) t rest = let c = rest u in record { tween = c .tween; valu
 followed (Stops r) t rest = stopped t r
 
 unfoldable pub courseOf : List Float → Tween → Course
-courseOf [] t = record { tween = t; values = []; folds = []; outcome = Finished }
+courseOf [] t = ended t Finished
 courseOf (x ∷ steps) t = followed (stepOf t x) t (courseOf steps)
 
 -- 4; 12 where a lent list is shorter than the steps

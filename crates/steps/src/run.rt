@@ -57,11 +57,7 @@ fn run_on(first: Tween, steps: &[f32], values: &mut [f32], folds: &mut [u32]) ->
                 i += 1;
             }
             Glided::Unsure => match take(t, steps[i]) {
-                Taken::Took {
-                    tween,
-                    value,
-                    folds: made,
-                } => {
+                Taken::Took(tween, value, made) => {
                     values[i] = value;
                     folds[i] = made;
                     t = tween;

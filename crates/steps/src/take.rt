@@ -12,11 +12,8 @@ use tween::step_on;
 use tween::value_in;
 
 pub enum Taken {
-    Took {
-        tween: Tween,
-        value: f32,
-        folds: u32,
-    },
+    // The tween behind the step, its value, and the folds.
+    Took(Tween, f32, u32),
     Stops(Refusal),
 }
 
@@ -36,11 +33,7 @@ pub fn take(t: Tween, step: f32) -> Taken
                 return Taken::Stops(Refusal::RecordBreaksLimit);
             }
             match value_in(tween) {
-                Eased::Value(value) => Taken::Took {
-                    tween,
-                    value,
-                    folds,
-                },
+                Eased::Value(value) => Taken::Took(tween, value, folds),
                 Eased::Refused(refusal) => Taken::Stops(refusal),
             }
         }

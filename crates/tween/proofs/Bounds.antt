@@ -1,35 +1,33 @@
 -- The limits on a tween's numbers, one by one, and how they make up a tween within its limits. Assumes nothing.
-use mathlib.Core.Path.{refl, ap, subst}
-use mathlib.Core.Bool.{Bool, _&&_, and-comm}
+use Prim.Native.Nat.{_≤_}
+use mathlib.Core.Path.{_≡_, refl, ap, subst}
+use mathlib.Core.Bool.{Bool, true, _&&_, and-comm}
+use borrow.Author.Tests.{leb-true}
 use lib.Dec.{T}
 use lib.Ieee.{Float, le, ofBits}
 use lib.Ieee.Fits.{and-i, and-l, and-r}
-use Rattle.math.specs.Rounded.{f32, zeroF, topF}
+use Rattle.math.specs.Rounded.{zeroF, topF}
 use Rattle.math.specs.Range.{valueOf, betweenOf, AtMost}
 use Rattle.math.specs.Whole.{Is}
+use Rattle.math.proofs.Choice.{and-both}
 use Rattle.math.proofs.Order.{le-chain}
 use Rattle.math.proofs.Upward.{Up}
 use Rattle.math.proofs.Sizes.{up-to}
+use Rattle.math.proofs.Bounded.{top-is, value-most}
 use Rattle.loop_mode.specs.Passes.{withinOf as modeWithin}
 use Rattle.easing.specs.Apply.{fitsRecordOf}
 use Rattle.tween.specs.declared.record.Tween.{Tween}
 use Rattle.tween.specs.declared.record.TweenSnapshot.{TweenSnapshot}
 use Rattle.tween.specs.Parts.{withEnds, put}
-use Rattle.tween.specs.Limits.{settingsWithin, idleBelow, clockWithin, countWithin, withinOf}
-use Rattle.math.proofs.Bounded.{top-is, value-most}
+use Rattle.tween.specs.Limits.{topScale, topWait, settingsWithin, idleBelow, clockWithin, countWithin, withinOf}
 
--- 33,554,432, the limit of delay_elapsed
-abbrev pub longest : Float
-longest = f32 0x4c00_0000
-
-pub longest-is : Is longest 33554432
+pub top-wait-is : Is topWait 33554432
 unfolding ofBits
-longest-is = (refl, refl)
+top-wait-is = (refl, refl)
 
--- 1,024, the limit of the scale
-fastest-is : Is (f32 0x4480_0000) 1024
+top-scale-is : Is topScale 1024
 unfolding ofBits
-fastest-is = (refl, refl)
+top-scale-is = (refl, refl)
 
 pub record Limits (t : Tween) : Type 0 where
   pub settings : T (settingsWithin t)
@@ -46,7 +44,7 @@ pub record Limits (t : Tween) : Type 0 where
   pub elapsed-to : T (le (t .elapsed) (t .duration))
   pub elapsed-most : AtMost 16777216 (t .elapsed)
   pub waited-up : Up (t .«delay_elapsed»)
-  pub waited-to : T (le (t .«delay_elapsed») longest)
+  pub waited-to : T (le (t .«delay_elapsed») topWait)
   pub idle : T (idleBelow (t .state) (t .«delay_elapsed») (t .delay))
   pub count : T (countWithin t)
 
@@ -65,7 +63,7 @@ limits t h = go (search (and-l, and-r)) (search (and-l, and-r))
           delay-up = search (and-l, and-r);
           delay-to = search (and-l, and-r);
           scale-up = search (and-l, and-r);
-          scale-most = up-to 1024 (t .«time_scale») (f32 0x4480_0000) fastest-is (search (and-l, and-r)) (search (and-l, and-r));
+          scale-most = up-to 1024 (t .«time_scale») topScale top-scale-is (search (and-l, and-r)) (search (and-l, and-r));
           easing-fits = search (and-l, and-r);
           elapsed-up = search (and-l, and-r);
           elapsed-to = search (and-l, and-r);
@@ -76,6 +74,10 @@ limits t h = go (search (and-l, and-r)) (search (and-l, and-r))
           count = and-r (settingsWithin t && clockWithin t) (countWithin t) h;
         }
 
+pub within-count : (t : Tween) → withinOf t ≡ true → t .«loop_count» ≤ 16777216
+unfolding withinOf
+within-count t h = leb-true _ _ (and-both (settingsWithin t && clockWithin t) (countWithin t) h .1)
+
 -- and back: what moves is the clock alone
 pub settings-stay : (now : TweenSnapshot) (t : Tween) → T (settingsWithin t) → T (settingsWithin (put now t))
 unfolding settingsWithin
@@ -85,25 +87,25 @@ pub settings-turned : (now : TweenSnapshot) (t : Tween) → T (settingsWithin t)
 unfolding settingsWithin
 settings-turned now t h =
     subst T
-    (ap (λ (v : Bool). v && betweenOf zeroF topF (t .duration) && betweenOf zeroF topF (t .delay) && betweenOf zeroF (f32 0x4480_0000) (t .«time_scale») && modeWithin (t .looping) && fitsRecordOf (t .easing))
+    (ap (λ (v : Bool). v && betweenOf zeroF topF (t .duration) && betweenOf zeroF topF (t .delay) && betweenOf zeroF topScale (t .«time_scale») && modeWithin (t .looping) && fitsRecordOf (t .easing))
     (and-comm (valueOf (t .start)) (valueOf (t .end)))) h
 
 pub between : (lo hi x : Float) → T (le lo x) → T (le x hi) → T (betweenOf lo hi x)
 between lo hi x h k = and-i (le lo x) (le x hi) h k
 
-pub clock : (t : Tween) → T (betweenOf zeroF (t .duration) (t .elapsed)) → T (betweenOf zeroF longest (t .«delay_elapsed»)) → T (idleBelow (t .state) (t .«delay_elapsed») (t .delay)) → T (clockWithin t)
+pub clock : (t : Tween) → T (betweenOf zeroF (t .duration) (t .elapsed)) → T (betweenOf zeroF topWait (t .«delay_elapsed»)) → T (idleBelow (t .state) (t .«delay_elapsed») (t .delay)) → T (clockWithin t)
 unfolding clockWithin
 clock t e w i =
-    and-i (betweenOf zeroF (t .duration) (t .elapsed) && betweenOf zeroF longest (t .«delay_elapsed»)) (idleBelow (t .state) (t .«delay_elapsed») (t .delay))
-    (and-i (betweenOf zeroF (t .duration) (t .elapsed)) (betweenOf zeroF longest (t .«delay_elapsed»)) e w) i
+    and-i (betweenOf zeroF (t .duration) (t .elapsed) && betweenOf zeroF topWait (t .«delay_elapsed»)) (idleBelow (t .state) (t .«delay_elapsed») (t .delay))
+    (and-i (betweenOf zeroF (t .duration) (t .elapsed)) (betweenOf zeroF topWait (t .«delay_elapsed»)) e w) i
 
 pub within : (t : Tween) → T (settingsWithin t) → T (clockWithin t) → T (countWithin t) → T (withinOf t)
 unfolding withinOf
 within t s c n = and-i (settingsWithin t && clockWithin t) (countWithin t) (and-i (settingsWithin t) (clockWithin t) s c) n
 
 module _ (t : Tween) (i : Limits t) where
-  pub waited : T (betweenOf zeroF longest (t .«delay_elapsed»))
-  waited = between zeroF longest (t .«delay_elapsed») (i .waited-up) (i .waited-to)
+  pub waited : T (betweenOf zeroF topWait (t .«delay_elapsed»))
+  waited = between zeroF topWait (t .«delay_elapsed») (i .waited-up) (i .waited-to)
 
   pub elapsed : T (betweenOf zeroF (t .duration) (t .elapsed))
   elapsed = between zeroF (t .duration) (t .elapsed) (i .elapsed-up) (i .elapsed-to)

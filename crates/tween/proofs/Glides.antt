@@ -11,9 +11,10 @@ use Rattle.tween.specs.declared.answers.Updated.the-variants.{Ran}
 use Rattle.tween.specs.declared.update.Glided.{Glided}
 use Rattle.tween.specs.declared.update.Glided.the-variants.{To, Unsure}
 use Rattle.tween.specs.declared.fold.Folding.{Folding}
+use Rattle.tween.specs.Parts.{put}
 use Rattle.tween.specs.Folds.{foldOnce, due, foldsOf}
 use Rattle.tween.specs.Update.{beginAt, ran, folded, advanced, updateOf}
-use Rattle.tween.specs.Gliding.{Slides, Glides}
+use Rattle.tween.specs.Inner.{Slides, Glides}
 
 pub glides : (t : Tween) (x w e : Float) (r : Glided) → t .state ≡ Running → updateOf t x ≡ advanced t w e → Slides t w e r → Glides t x r
 glides t x w e (To v p) s a h = (s, (a ∙ h .0, h .1, h .2))
@@ -36,20 +37,13 @@ one-fold t w e q z b f n =
 -- t with what a gliding step changes set in place
 abbrev pub placed : Tween → Float → Folding → Tween
 placed t w p =
-    record {
-      start = t .start;
-      end = t .end;
-      duration = t .duration;
-      easing = t .easing;
-      delay = t .delay;
-      «time_scale» = t .«time_scale»;
-      looping = t .looping;
+    put (record {
       elapsed = p .elapsed;
       «delay_elapsed» = w;
-      state = t .state;
       «loop_count» = p .«loop_count»;
       «ping_pong_reverse» = p .«ping_pong_reverse»;
-    }
+      state = t .state;
+    }) t
 
 pub goes-to : (t : Tween) (x w : Float) (p : Folding) → Glides t x (To w p) → updateOf t x ≡ Ran (placed t w p) (p .folds) true
 goes-to t x w p h = h .1 .0 ∙ (rw (h .0, h .1 .1) refl)

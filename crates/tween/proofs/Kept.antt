@@ -20,10 +20,10 @@ use Rattle.tween.specs.declared.record.TweenState.the-variants.{Idle, Ru
 use Rattle.tween.specs.declared.answers.Changed.{Changed}
 use Rattle.tween.specs.declared.answers.Changed.the-variants.{Done, Refused}
 use Rattle.tween.specs.Parts.{withEnds, put, moved}
-use Rattle.tween.specs.Limits.{idleBelow, withinOf}
+use Rattle.tween.specs.Limits.{topWait, idleBelow, withinOf}
 use Rattle.tween.specs.Calls.{limited, atStart, woken, paused, resumed, soughtIn, resetOf, seekOf, reverseOf, pauseOf, resumeOf}
 use Rattle.tween.specs.Promises.{keeps}
-use Rattle.tween.proofs.Bounds.{longest, longest-is, Limits, limits, settings-stay, settings-turned, between, clock, within, waited, elapsed}
+use Rattle.tween.proofs.Bounds.{top-wait-is, Limits, limits, settings-stay, settings-turned, between, clock, within, waited, elapsed}
 
 -- while Idle the delay is not over; no call makes a tween Idle but reset
 idle-stays : (a : TweenState) (w d : Float) → T (idleBelow a w d) → T (idleBelow (woken a) w d) × T (idleBelow (paused a) w d) × T (idleBelow (resumed a) w d)
@@ -45,7 +45,7 @@ module _ (t : Tween) where
   reset-keeps =
       accepted (put (atStart t) t)
       (λ i. within (put (atStart t) t) (settings-stay (atStart t) t (i .settings))
-      (clock (put (atStart t) t) (between zeroF (t .duration) zeroF (zero-within .0) (i .duration-up)) (between zeroF longest zeroF (zero-within .0) (at-most-le 33554432 zeroF longest longest-is (zero-most 33554432)))
+      (clock (put (atStart t) t) (between zeroF (t .duration) zeroF (zero-within .0) (i .duration-up)) (between zeroF topWait zeroF (zero-within .0) (at-most-le 33554432 zeroF topWait top-wait-is (zero-most 33554432)))
       (by-test (λ (s : TweenState). T (idleBelow s zeroF (t .delay))) (lt zeroF (t .delay)) Idle Running (λ h. subst⁻¹ T h tt) (λ _. tt))) tt)
 
   -- for a duration that is an f32: of other numbers a share may round up, as 1 times 16,777,215.5 to 16,777,216

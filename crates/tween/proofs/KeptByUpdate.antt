@@ -3,7 +3,7 @@ use Prim.Native.Nat.{ℕ}
 use mathlib.Core.Path.{_≡_, refl, subst, subst⁻¹}
 use mathlib.Core.Bool.{Bool, true, false, _&&_, false≢true}
 use lib.Dec.{T, lit≤}
-use lib.Ieee.{Float, binary32, lt, le, eq, isNan}
+use lib.Ieee.{Float, binary32, lt, le, isNan}
 use lib.Ieee.Fits.{and-i, and-l, and-r}
 use Rattle.math.specs.Rounded.{zeroF, topF, _⊕_, _⊖_, _⊗_}
 use Rattle.math.specs.Range.{finiteOf, betweenOf, maxZeroOf, AtMost}
@@ -21,12 +21,12 @@ use Rattle.tween.specs.declared.answers.Updated.{Updated}
 use Rattle.tween.specs.declared.answers.Updated.the-variants as updated
 use Rattle.tween.specs.declared.fold.Folding.{Folding}
 use Rattle.tween.specs.Parts.{put}
-use Rattle.tween.specs.Limits.{settingsWithin, idleBelow, clockWithin, countWithin, withinOf}
+use Rattle.tween.specs.Limits.{topWait, settingsWithin, idleBelow, clockWithin, countWithin, withinOf}
 use Rattle.tween.specs.Folds.{foldOnce, due, foldsOf}
-use Rattle.tween.specs.Update.{beginAt, atOnce, afterFolds, ran, advanced, waiting, waitOf, runOf, byState, updateOf}
+use Rattle.tween.specs.Update.{beginAt, atOnce, afterFolds, ran, advanced, waiting, lostOf, waitOf, runOf, byState, updateOf}
 use Rattle.tween.specs.Promises.{keepsButCount}
 use Rattle.tween.proofs.Ways.{by-fold, is-due, not-due, folds-keep, foldedFrom, by-advanced}
-use Rattle.tween.proofs.Bounds.{longest, longest-is, Limits, limits, settings-stay, between, clock, within, waited, elapsed}
+use Rattle.tween.proofs.Bounds.{top-wait-is, Limits, limits, settings-stay, between, clock, within, waited, elapsed}
 
 -- folding: from 0 up, and at most the duration on completion
 abbrev Good : Float → Folding → Type 0
@@ -63,12 +63,12 @@ fine : (t : Tween) → T (settingsWithin t) → T (clockWithin t) → T (setting
 fine t s c = and-i (settingsWithin t) (clockWithin t) s c
 
 module _ (t : Tween) (i : Limits t) where
-  ran-fine : (w : Float) (p : Folding) → T (betweenOf zeroF longest w) → T (betweenOf zeroF (t .duration) (p .elapsed)) → Fine (ran t w p)
+  ran-fine : (w : Float) (p : Folding) → T (betweenOf zeroF topWait w) → T (betweenOf zeroF (t .duration) (p .elapsed)) → Fine (ran t w p)
   ran-fine w p h k =
       let u = put (afterFolds w p) t in
       fine u (settings-stay (afterFolds w p) t (i .settings)) (clock u k h (by-test (λ (s : TweenState). T (idleBelow s w (t .delay))) (p .completed) Completed Running (λ _. tt) (λ _. tt)))
 
-  advanced-fine : (w e : Float) → T (betweenOf zeroF longest w) → Up e → Fine (advanced t w e)
+  advanced-fine : (w e : Float) → T (betweenOf zeroF topWait w) → Up e → Fine (advanced t w e)
   advanced-fine w e h k =
       let d = t .duration in
       let first : Good d (beginAt t e) = (k, λ c. absurd (false≢true c)) in
@@ -89,7 +89,7 @@ module _ (t : Tween) (i : Limits t) where
     unfolding runOf
     run-fine =
         let e = t .elapsed ⊕ x ⊗ t .«time_scale» in
-        by-test Fine (lt zeroF x && lt zeroF (t .«time_scale») && lt (t .elapsed) (t .duration) && eq e (t .elapsed)) _ _ (λ _. tt)
+        by-test Fine (lostOf Running t x e) _ _ (λ _. tt)
         (λ _. advanced-fine (t .«delay_elapsed») e (waited t i) (sum-up x (at-most-finite 16777216 x step-most) low))
 
     -- two floats up to 2 ^ 24 come to 2 ^ 25 at most
@@ -103,8 +103,8 @@ module _ (t : Tween) (i : Limits t) where
         let vm : AtMost 16777216 v = up-to 16777216 v topF top-is (i .waited-up) (le-chain v d topF (lt-le v d l) (i .delay-to)) in
         let wm : AtMost 33554432 w = add-at-most binary32 33554432 held-25 16777216 16777216 v x (lit≤ tt) vm step-most in
         let wu : Up w = add-up binary32 v x (i .waited-up) low in
-        let wb : T (betweenOf zeroF longest w) = between zeroF longest w wu (at-most-le 33554432 w longest longest-is wm) in
-        by-test Fine (lt zeroF x && eq w v) _ _ (λ _. tt)
+        let wb : T (betweenOf zeroF topWait w) = between zeroF topWait w wu (at-most-le 33554432 w topWait top-wait-is wm) in
+        by-test Fine (lostOf Idle t x w) _ _ (λ _. tt)
         (λ _.
         by-test Fine (lt w d) _ _
         (λ g.

@@ -1,11 +1,10 @@
 pub mod Bounds
 pub mod Examples
+mod Folds
 pub mod Glides
 pub mod Handed
 pub mod Kept
 pub mod KeptByUpdate
 pub mod Reported
-mod Stepping
-mod Told
 pub mod Valued
 pub mod Ways

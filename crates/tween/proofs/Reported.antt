@@ -23,7 +23,7 @@ use Rattle.tween.specs.declared.answers.Updated.{Updated}
 use Rattle.tween.specs.declared.answers.Updated.the-variants.{Ran, Refused}
 use Rattle.tween.specs.declared.fold.Folding.{Folding}
 use Rattle.tween.specs.Folds.{foldOnce, due, foldsOf}
-use Rattle.tween.specs.Update.{beginAt, advanced, waitOf, runOf, byState, updateOf}
+use Rattle.tween.specs.Update.{beginAt, advanced, lostOf, waitOf, runOf, byState, updateOf}
 use Rattle.tween.specs.Limits.{withinOf}
 use Rattle.tween.specs.Promises.{isCompleted, sumBy, runsOn, comesToFold, foldTimes, TooFew}
 use Rattle.tween.proofs.Ways.{fold-counts, foldedFrom, by-advanced, by-update}
@@ -105,10 +105,6 @@ module _ (t : Tween) where
       by-advanced (λ (a : Updated). a ≡ Refused t TooManyFolds) t w e (λ k. absurd (true≢false (sym k ∙ z))) (λ _ _. refl)
       (λ g. absurd (true≢false (sym (few 4096 (le-refl 4096)) ∙ ap (due (t .duration)) (sym (all-made (t .looping) (t .duration) 4096 (due (t .duration) p) p refl few)) ∙ g)))
 
-  -- for a duration that is not 0
-  pub seven-exactly : (w e : Float) → eq (t .duration) zeroF ≡ false → (advanced t w e ≡ Refused t TooManyFolds) ↔ TooFew t e
-  seven-exactly w e z = (λ h. seven-needs w e (subst⁻¹ Seven h refl) .1, seven-due w e z)
-
   -- an update gives 7 there alone
   pub update-seven : (u : Tween) (x : Float) → updateOf t x ≡ Refused u TooManyFolds → (eq (t .duration) zeroF ≡ false) × TooFew t (sumBy (maxZeroOf x) t (t .state))
   update-seven u x h =
@@ -123,10 +119,10 @@ module _ (t : Tween) where
   folds-by x Completed h = absurd h
   folds-by x Idle h =
       let w = t .«delay_elapsed» ⊕ x in
-      let lost = lt zeroF x && eq w (t .«delay_elapsed») in
+      let lost = lostOf Idle t x w in
       (w, rw (failed lost (and-l (not lost) (not (lt w (t .delay))) h), failed (lt w (t .delay)) (and-r (not lost) (not (lt w (t .delay))) h)))
   folds-by x Running h =
-      let lost = lt zeroF x && lt zeroF (t .«time_scale») && lt (t .elapsed) (t .duration) && eq (t .elapsed ⊕ x ⊗ t .«time_scale») (t .elapsed) in
+      let lost = lostOf Running t x (t .elapsed ⊕ x ⊗ t .«time_scale») in
       (t .«delay_elapsed», rw (failed lost h))
 
   -- and where it does not, it gives no 7
@@ -136,11 +132,11 @@ module _ (t : Tween) where
   seven-runs x Completed h = absurd h
   seven-runs x Idle h =
       let w = t .«delay_elapsed» ⊕ x in
-      let lost = lt zeroF x && eq w (t .«delay_elapsed») in
+      let lost = lostOf Idle t x w in
       by-test (λ (a : Updated). Seven a → T (not lost && not (lt w (t .delay)))) lost _ _ (λ _ k. absurd (omega arith))
       (λ l. by-test (λ (a : Updated). Seven a → T (not lost && not (lt w (t .delay)))) (lt w (t .delay)) _ _ (λ _ k. absurd k) (λ d k. rw (l, d) tt)) h
   seven-runs x Running h =
-      let lost = lt zeroF x && lt zeroF (t .«time_scale») && lt (t .elapsed) (t .duration) && eq (t .elapsed ⊕ x ⊗ t .«time_scale») (t .elapsed) in
+      let lost = lostOf Running t x (t .elapsed ⊕ x ⊗ t .«time_scale») in
       by-test (λ (a : Updated). Seven a → T (not lost)) lost _ _ (λ _ k. absurd (omega arith)) (λ l k. rw l tt) h
 
   seven-reaches : (x : Float) → Seven (updateOf t x) → T (withinOf t && not (lt topF x) && runsOn (maxZeroOf x) t (t .state))

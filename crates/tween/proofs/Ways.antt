@@ -21,7 +21,7 @@ use Rattle.tween.specs.declared.fold.Folding.{Folding}
 use Rattle.tween.specs.Parts.{put}
 use Rattle.tween.specs.Limits.{withinOf}
 use Rattle.tween.specs.Folds.{completes, goesOn, foldOnce, due, foldsOf}
-use Rattle.tween.specs.Update.{beginAt, atOnce, ran, folded, advanced, waiting, waitOf, runOf, byState, updateOf}
+use Rattle.tween.specs.Update.{beginAt, atOnce, ran, folded, advanced, waiting, lostOf, waitOf, runOf, byState, updateOf}
 use Rattle.tween.specs.Promises.{sumBy}
 
 -- a fold completes, or it goes on
@@ -75,10 +75,10 @@ module _ (C : Updated → Type 0) (t : Tween) (limit : C (Refused t RecordBreaks
   by-state x Paused h runs = paused h
   by-state x Idle h runs =
       let w = t .«delay_elapsed» ⊕ x in
-      by-test C (lt zeroF x && eq w (t .«delay_elapsed»)) _ _ (λ _. lost) (λ _. by-test C (lt w (t .delay)) _ _ (λ _. waits w) (λ _. runs w))
+      by-test C (lostOf Idle t x w) _ _ (λ _. lost) (λ _. by-test C (lt w (t .delay)) _ _ (λ _. waits w) (λ _. runs w))
   by-state x Running h runs =
       let e = t .elapsed ⊕ x ⊗ t .«time_scale» in
-      by-test C (lt zeroF x && lt zeroF (t .«time_scale») && lt (t .elapsed) (t .duration) && eq e (t .elapsed)) _ _ (λ _. lost) (λ _. runs (t .«delay_elapsed»))
+      by-test C (lostOf Running t x e) _ _ (λ _. lost) (λ _. runs (t .«delay_elapsed»))
 
   pub by-update : (x : Float) → ((w : Float) → C (advanced t w (sumBy (maxZeroOf x) t (t .state)))) → C (updateOf t x)
   unfolding updateOf

@@ -3,5 +3,5 @@ pub mod Limits
 pub mod Calls
 pub mod Folds
 pub mod Update
-pub mod Gliding
+pub mod Inner
 pub mod Promises

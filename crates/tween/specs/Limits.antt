@@ -10,6 +10,14 @@ use Rattle.tween.specs.declared.record.Tween.{Tween}
 use Rattle.tween.specs.declared.record.TweenState.{TweenState}
 use Rattle.tween.specs.declared.record.TweenState.the-variants.{Idle, Running, Paused, Completed}
 
+-- 1,024
+abbrev pub topScale : Float
+topScale = f32 0x4480_0000
+
+-- 33,554,432
+abbrev pub topWait : Float
+topWait = f32 0x4c00_0000
+
 -- "A tween has start, end (as values), duration and delay 0 to 16,777,216, time scale 0 to 1,024"; "Pass numbers of Times and PingPongTimes are at most 65,535"; "Easing inside a record must be supplied and within limits"
 unfoldable pub settingsWithin : Tween → Bool
 settingsWithin t =
@@ -17,7 +25,7 @@ settingsWithin t =
     && valueOf (t .end)
     && betweenOf zeroF topF (t .duration)
     && betweenOf zeroF topF (t .delay)
-    && betweenOf zeroF (f32 0x4480_0000) (t .«time_scale»)
+    && betweenOf zeroF topScale (t .«time_scale»)
     && modeWithin (t .looping)
     && fitsRecordOf (t .easing)
 
@@ -32,7 +40,7 @@ idleBelow Completed waited delay = true
 unfoldable pub clockWithin : Tween → Bool
 clockWithin t =
     betweenOf zeroF (t .duration) (t .elapsed)
-    && betweenOf zeroF (f32 0x4c00_0000) (t .«delay_elapsed»)
+    && betweenOf zeroF topWait (t .«delay_elapsed»)
     && idleBelow (t .state) (t .«delay_elapsed») (t .delay)
 
 -- "loop_count up to 16,777,216"

@@ -31,17 +31,6 @@ withEnds a b now t =
 abbrev pub put : TweenSnapshot → Tween → Tween
 put now t = withEnds (t .start) (t .end) now t
 
--- what moves in t
-abbrev pub snapshotIn : Tween → TweenSnapshot
-snapshotIn t =
-    record {
-      elapsed = t .elapsed;
-      «delay_elapsed» = t .«delay_elapsed»;
-      «loop_count» = t .«loop_count»;
-      «ping_pong_reverse» = t .«ping_pong_reverse»;
-      state = t .state;
-    }
-
 -- what moves in t, with another elapsed and state
 abbrev pub moved : Float → TweenState → Tween → TweenSnapshot
 moved e s t =
@@ -52,6 +41,10 @@ moved e s t =
       «ping_pong_reverse» = t .«ping_pong_reverse»;
       state = s;
     }
+
+-- what moves in t
+abbrev pub snapshotIn : Tween → TweenSnapshot
+snapshotIn t = moved (t .elapsed) (t .state) t
 
 -- 1 s, Linear, no delay, scale 1, Once
 abbrev pub newOf : Float → Float → Tween

@@ -16,7 +16,7 @@ use Rattle.tween.specs.declared.answers.Updated.the-variants as updated
 use Rattle.tween.specs.declared.fold.Folding.{Folding}
 use Rattle.tween.specs.Limits.{settingsWithin, clockWithin, withinOf}
 use Rattle.tween.specs.Folds.{foldOnce, due}
-use Rattle.tween.specs.Update.{beginAt}
+use Rattle.tween.specs.Update.{beginAt, lostOf}
 
 -- an accepted call hands back a tween within its limits
 abbrev pub keeps : Changed → Bool
@@ -52,8 +52,8 @@ sumBy x t Completed = t .elapsed
 
 -- the tween runs on by a step x: it is not lost, and the delay is over
 abbrev pub runsOn : Float → Tween → TweenState → Bool
-runsOn x t Idle = let w = t .«delay_elapsed» ⊕ x in not (lt zeroF x && eq w (t .«delay_elapsed»)) && not (lt w (t .delay))
-runsOn x t Running = not (lt zeroF x && lt zeroF (t .«time_scale») && lt (t .elapsed) (t .duration) && eq (t .elapsed ⊕ x ⊗ t .«time_scale») (t .elapsed))
+runsOn x t Idle = let w = t .«delay_elapsed» ⊕ x in not (lostOf Idle t x w) && not (lt w (t .delay))
+runsOn x t Running = not (lostOf Running t x (t .elapsed ⊕ x ⊗ t .«time_scale»))
 runsOn x t Paused = false
 runsOn x t Completed = false
 

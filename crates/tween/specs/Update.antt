@@ -1,5 +1,5 @@
 -- Document 01, "The tween": `update`.
-use mathlib.Core.Bool.{true, false, not, _&&_, cond}
+use mathlib.Core.Bool.{Bool, true, false, not, _&&_, cond}
 use lib.Ieee.{Float, lt, eq}
 use Rattle.math.specs.Rounded.{zeroF, topF, _⊕_, _⊖_, _⊗_}
 use Rattle.math.specs.Range.{maxZeroOf}
@@ -11,8 +11,6 @@ use Rattle.tween.specs.declared.record.TweenState.the-variants.{Idle, Ru
 use Rattle.tween.specs.declared.answers.Updated.{Updated}
 use Rattle.tween.specs.declared.answers.Updated.the-variants.{Ran, Refused}
 use Rattle.tween.specs.declared.fold.Folding.{Folding}
-use Rattle.tween.specs.declared.step.Begun.{Begun}
-use Rattle.tween.specs.declared.step.Begun.the-variants.{Still, Lost, Waits, Runs}
 use Rattle.tween.specs.Parts.{put}
 use Rattle.tween.specs.Limits.{withinOf}
 use Rattle.tween.specs.Folds.{due, foldsOf}
@@ -61,18 +59,23 @@ waiting t w =
       state = Idle;
     }
 
--- Idle, with a delay sum w. 6: "step > 0 and [..] Idle with the delay sum equal to delay_elapsed". "once that is at least the delay, Running, and the excess times scale is added to elapsed"
+-- "Step lost (added): step > 0 and either Idle with the delay sum equal to delay_elapsed, or Running with scale > 0, elapsed < duration and the sum equal to elapsed"
+abbrev pub lostOf : TweenState → Tween → Float → Float → Bool
+lostOf Idle t x sum = lt zeroF x && eq sum (t .«delay_elapsed»)
+lostOf Running t x sum = lt zeroF x && lt zeroF (t .«time_scale») && lt (t .elapsed) (t .duration) && eq sum (t .elapsed)
+lostOf Paused t x sum = false
+lostOf Completed t x sum = false
+
+-- Idle, with a delay sum w: 6, or "once that is at least the delay, Running, and the excess times scale is added to elapsed"
 unfoldable pub waitOf : Tween → Float → Float → Updated
 waitOf t x w =
-    cond (lt zeroF x && eq w (t .«delay_elapsed»)) (Refused t StepLost)
+    cond (lostOf Idle t x w) (Refused t StepLost)
     (cond (lt w (t .delay)) (Ran (put (waiting t w) t) 0 true)
     (advanced t w (t .elapsed ⊕ (w ⊖ t .delay) ⊗ t .«time_scale»)))
 
--- Running, with a sum e. 6: "step > 0 and [..] Running with scale > 0, elapsed < duration and the sum equal to elapsed"
+-- Running, with a sum e: 6, or t runs on
 unfoldable pub runOf : Tween → Float → Float → Updated
-runOf t x e =
-    cond (lt zeroF x && lt zeroF (t .«time_scale») && lt (t .elapsed) (t .duration) && eq e (t .elapsed)) (Refused t StepLost)
-    (advanced t (t .«delay_elapsed») e)
+runOf t x e = cond (lostOf Running t x e) (Refused t StepLost) (advanced t (t .«delay_elapsed») e)
 
 -- "Completed and Paused change nothing. Idle adds the step to delay_elapsed [..]. Running adds step times scale"
 unfoldable pub byState : TweenState → Tween → Float → Updated
@@ -86,10 +89,3 @@ unfoldable pub updateOf : Tween → Float → Updated
 updateOf t x =
     cond (withinOf t) (cond (lt topF x) (Refused t StepTooLong) (byState (t .state) t (maxZeroOf x)))
     (Refused t RecordBreaksLimit)
-
--- what a step comes to, by how it begins: an inner step of the code
-abbrev pub finishOf : Tween → Begun → Updated
-finishOf t (Still running) = Ran t 0 running
-finishOf t Lost = Refused t StepLost
-finishOf t (Waits w) = Ran (put (waiting t w) t) 0 true
-finishOf t (Runs w e) = advanced t w e

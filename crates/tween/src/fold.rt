@@ -40,6 +40,7 @@ fn go_on(p: Folding, duration: f32, count: u32, reverse: bool) -> Folding
     }
 }
 
+// One fold. An update makes 4,096 at most, so that neither count comes near 2^32.
 pub fn fold_once(looping: Loop, duration: f32, p: Folding) -> Folding
     requires { ⌜ (p .«loop_count» < 4294967295) × (p .folds < 4294967295) ⌝ }
     ensures { λ r. ⌜ r ≡ foldOnce looping duration p ⌝ }

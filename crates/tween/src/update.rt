@@ -5,7 +5,7 @@ ghost use mathlib.Core.Bool.{true};
 ghost use Prim.Native.Nat.{_≤_};
 ghost use Rattle.tween.specs.Limits.{withinOf};
 ghost use Rattle.tween.specs.Update.{updateOf};
-ghost use Rattle.tween.specs.Gliding.{Slides, Glides};
+ghost use Rattle.tween.specs.Inner.{Slides, Glides};
 use crate::answers::Updated;
 use crate::fold::Folding;
 use crate::fold::fold_once;
@@ -25,6 +25,7 @@ pub enum Glided {
     Unsure,
 }
 
+// `advance` where the tween runs on with one fold at most; else Unsure.
 fn slide(t: Tween, waited: f32, e: f32) -> Glided
     requires { ⌜ t .«loop_count» ≤ 16777216 ⌝ }
     ensures { λ r. ⌜ Slides t waited e r ⌝ }

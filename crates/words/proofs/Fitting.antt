@@ -5,7 +5,6 @@ use native.Mathlib.Omega.{arith}
 use mathlib.Core.Path.{_≡_, refl, sym, _∙_}
 use mathlib.Core.Bool.{Bool, true, false, not, _&&_, _||_, cond, false≢true}
 use mathlib.Core.Logic.{⊎-elim}
-use lib.Dec.{ltb}
 use lib.ListN.{getD}
 use lib.Ieee.{ofBits, lt, le, eq}
 use borrow.Author.Tests.{ltb-true, ltb-false, lt-ltb, le-ltb}
@@ -17,7 +16,7 @@ use Rattle.easing.specs.Params.{paramsOf, withinOf}
 use Rattle.easing.specs.Apply.{fitsRecordOf}
 use Rattle.words.specs.declared.kinds.LaxEasing.{LaxEasing}
 use Rattle.words.specs.declared.kinds.EasingRead.the-variants as kind
-use Rattle.words.specs.Kinds.{withParameters, easingFrom}
+use Rattle.words.specs.Kinds.{isKind, withParameters, easingFrom}
 use Rattle.words.specs.Tracks.{easingIn}
 use Rattle.words.specs.Sampling.{plainKind, easingFits}
 
@@ -32,8 +31,8 @@ each-below (suc n) f h i b =
     let p = and-both (f n) (allBelow n f) h in
     ⊎-elim (λ (e : i ≡ n). rw e (p .0)) (λ (l : i < n). each-below n f (p .1) i l) (eq-or-lt-of-le (omega (arith, b)))
 
-plain-known : (k : ℕ) → plainKind k ≡ true → ltb k 38 ≡ true
-plain-known k h = go (ltb k 38) (λ e. beyond (ltb-false k 38 e))
+plain-known : (k : ℕ) → plainKind k ≡ true → isKind k ≡ true
+plain-known k h = go (isKind k) (λ e. beyond (ltb-false k 38 e))
   where
     beyond : 38 ≤ k → plainKind k ≡ false
     beyond m = rw (le-ltb k 13 (omega arith), lt-ltb 18 k (omega arith), le-ltb k 25 (omega arith), lt-ltb 27 k (omega arith), le-ltb k 31 (omega arith))
@@ -51,7 +50,7 @@ plain-fits w h =
 -- an easing that is read
 pub known-fits : (w : LaxEasing) (e : Easing) → easingFrom w ≡ kind.Known e → fitsRecordOf e ≡ easingFits w
 unfolding easingFits easingFrom
-known-fits w e h = go (ltb (w .kind) 38) _ h
+known-fits w e h = go (isKind (w .kind)) _ h
   where
     go : (b : Bool) (x : Easing) → cond b (kind.Known x) kind.Unknown ≡ kind.Known e → fitsRecordOf e ≡ b && fitsRecordOf (easingIn (cond b (kind.Known x) kind.Unknown))
     go true x h = let s : e ≡ x = cc in rw s
@@ -59,7 +58,7 @@ known-fits w e h = go (ltb (w .kind) 38) _ h
 
 pub unknown-fits : (w : LaxEasing) → easingFrom w ≡ kind.Unknown → false ≡ easingFits w
 unfolding easingFits easingFrom
-unknown-fits w h = go (ltb (w .kind) 38) _ h
+unknown-fits w h = go (isKind (w .kind)) _ h
   where
     go : (b : Bool) (x : Easing) → cond b (kind.Known x) kind.Unknown ≡ kind.Unknown → false ≡ b && fitsRecordOf (easingIn (cond b (kind.Known x) kind.Unknown))
     go true x h = let z : _≡_ {A = ℕ} 0 1 = cc in absurd (omega arith)

@@ -18,7 +18,7 @@ use Rattle.words.specs.declared.tracks.LaxKeyframe.{LaxKeyframe}
 use Rattle.words.specs.declared.tracks.LaxTrack.{LaxTrack}
 use Rattle.words.proofs.tracks.LaxTrack.{the-type}
 use Rattle.words.proofs.tracks.LaxTrack.Laws.{the-laws}
-use Rattle.words.specs.Kinds.{words}
+use Rattle.words.specs.Kinds.{words, isKind}
 use Rattle.words.specs.Tracks.{placesIn, knownKinds}
 
 -- at most 64 places are all looked at
@@ -34,7 +34,7 @@ abbrev pub noWords : LaxKeyframe
 noWords = record { time = nan; value = nan; easing = words 0 nan nan nan nan 0 }
 
 module _ (ws : List LaxKeyframe) (n : ℕ) (fit : n ≤ length ws) where
-  pub known-step : (i : ℕ) → i < n → knownKinds (drop i (take n ws)) ≡ ltb (getD ws i noWords .easing .kind) 38 && knownKinds (drop (i + 1) (take n ws))
+  pub known-step : (i : ℕ) → i < n → knownKinds (drop i (take n ws)) ≡ isKind (getD ws i noWords .easing .kind) && knownKinds (drop (i + 1) (take n ws))
   unfolding knownKinds
   known-step i h = rw (front ws n fit noWords i h)
 

@@ -4,7 +4,7 @@ use native.Mathlib.Omega.{arith}
 use mathlib.Core.Path.{_≡_, refl, ap, _∙_}
 use mathlib.Core.Bool.{Bool, true, false, not, cond}
 use mathlib.Core.List.{List, [], _∷_, _++_, map}
-use lib.Dec.{eqb, ltb}
+use lib.Dec.{eqb}
 use lib.ListN.{length, length-map, take, drop}
 use lib.Seq.{length-take-le, take-at}
 use Rattle.easing.specs.declared.kinds.Easing.{Easing}
@@ -22,9 +22,9 @@ use Rattle.words.specs.declared.modes.LoopRead.the-variants as mode
 use Rattle.words.specs.declared.modes.StateRead.the-variants as state
 use Rattle.words.specs.declared.tracks.LaxKeyframe.{LaxKeyframe}
 use Rattle.words.specs.declared.tweens.TweenRead.the-variants.{Known}
-use Rattle.words.specs.Kinds.{withParameters, easingFrom, easingWords}
-use Rattle.words.specs.Modes.{loopFrom, loopWords, stateFrom, stateWord, flagWord}
-use Rattle.words.specs.Tracks.{placesIn, blanks, knownKinds, knownTrack, frameFrom, framesFrom, trackFrom, frameWords, framesWords, trackWords}
+use Rattle.words.specs.Kinds.{isKind, withParameters, easingFrom, easingWords}
+use Rattle.words.specs.Modes.{isMode, loopFrom, loopWords, stateFrom, stateWord, flagWord}
+use Rattle.words.specs.Tracks.{blanks, knownKinds, knownTrack, frameFrom, framesFrom, trackFrom, frameWords, framesWords, trackWords}
 use Rattle.words.specs.Tweens.{tweenFrom, tweenWords}
 use Rattle.words.proofs.Known.{all-places}
 
@@ -93,9 +93,9 @@ unfolding tweenFrom tweenWords
 tween-back t = rw (easing-back (t .easing), loop-back (t .looping), state-back (t .state), flag-back (t .«ping_pong_reverse»))
 
 -- a kind that is written is known
-kind-back : (e : Easing) → ltb (easingWords e .kind) 38 ≡ true
+kind-back : (e : Easing) → isKind (easingWords e .kind) ≡ true
 unfolding easingFrom
-kind-back e = decided (ltb (easingWords e .kind) 38) _ e (easing-back e)
+kind-back e = decided (isKind (easingWords e .kind)) _ e (easing-back e)
   where
     isKnown : EasingRead → Bool
     isKnown (kind.Known x) = true
@@ -118,7 +118,7 @@ unfolding knownKinds frameWords
 kinds-back [] = refl
 kinds-back (k ∷ l) = rw (kind-back (k .easing), kinds-back l) refl
 
-mode-back : (l : Loop) → ltb (loopWords l .mode) 5 ≡ true
+mode-back : (l : Loop) → isMode (loopWords l .mode) ≡ true
 unfolding loopWords
 mode-back Once = refl
 mode-back (Times n) = refl

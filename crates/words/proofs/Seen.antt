@@ -2,10 +2,10 @@
 use Prim.Native.Nat.{ℕ, _+_, _-_, _<_, _≤_}
 use native.Mathlib.Omega.{arith}
 use mathlib.Core.Path.{_≡_, refl, sym, _∙_}
-use mathlib.Core.Bool.{true, false, _&&_}
-use mathlib.Core.List.{List, map, _++_}
+use mathlib.Core.Bool.{true, false}
+use mathlib.Core.List.{List, map}
 use mathlib.Core.Logic.{_⊎_, inl, inr, ⊎-elim}
-use lib.Dec.{T, ltb}
+use lib.Dec.{T}
 use lib.ListN.{length, length-append, length-map, take, drop, getD, List·getD-append, List·getD-map}
 use lib.Seq.{length-take-le, getD-take}
 use lib.Ieee.{Float, lt, le}
@@ -16,7 +16,6 @@ use Rattle.math.proofs.Choice.{and-both}
 use Rattle.math.proofs.Order.{lt-le, le-lt-chain, lt-le-chain}
 use Rattle.math.proofs.Upward.{Up}
 use Rattle.easing.specs.Apply.{fitsRecordOf}
-use Rattle.easing.specs.declared.answers.Eased.the-variants as eased
 use Rattle.frames.specs.declared.frame.Keyframe.{Keyframe}
 use Rattle.frames.specs.Limits.{timeOf, frameOf, framesAfter, framesOf, beforeAll, noFrame}
 use Rattle.frames.specs.Sampling.{cutOf, betweenOf, pickOf, sampleOf}
@@ -29,10 +28,10 @@ use Rattle.keyframe.proofs.Records.{after-step, after-end, last-time, clocked}
 use Rattle.words.specs.declared.tracks.LaxKeyframe.{LaxKeyframe}
 use Rattle.words.specs.declared.tracks.LaxTrack.{LaxTrack}
 use Rattle.words.specs.declared.sampling.Quick.the-variants.{Value}
-use Rattle.words.specs.Kinds.{withParameters, easingFrom}
-use Rattle.words.specs.Modes.{loopFrom}
-use Rattle.words.specs.Tracks.{placesIn, easingIn, loopIn, blanks, knownKinds, knownTrack, frameFrom, framesFrom, trackFrom}
-use Rattle.words.specs.Sampling.{easingFits, quickOf}
+use Rattle.words.specs.Kinds.{isKind, withParameters, easingFrom}
+use Rattle.words.specs.Modes.{isMode, loopFrom}
+use Rattle.words.specs.Tracks.{easingIn, loopIn, blanks, knownKinds, knownTrack, frameFrom, framesFrom, trackFrom}
+use Rattle.words.specs.Sampling.{easingFits, clockKnown, quickOf}
 use Rattle.words.proofs.Known.{noWords, all-places, known-step, known-end}
 
 -- the frames that the words stand for, with the places behind them
@@ -87,13 +86,13 @@ module _ (w : LaxTrack) (fit : w .count ≤ length (w .frames)) (most : w .count
       next-time m = ⊎-elim (λ (z : AtStart before i). rw (z .0) start) (λ (c : Past w before i). later-time before (k .time) (c .2) (holds _ above) m) (s .came)
 
       module _ (value : valueOf (getD (w .frames) i noWords .value) ≡ true) (easing : easingFits (getD (w .frames) i noWords .easing) ≡ true) where
-        next-known : ltb (k .easing .kind) 38 ≡ true
+        next-known : isKind (k .easing .kind) ≡ true
         unfolding easingFits
-        next-known = and-both (ltb (k .easing .kind) 38) (fitsRecordOf (easingIn (easingFrom (k .easing)))) easing .0
+        next-known = and-both (isKind (k .easing .kind)) (fitsRecordOf (easingIn (easingFrom (k .easing)))) easing .0
 
         next-frame : T (le (k .time) topF) → frameOf (frameFrom k) ≡ true
         unfolding frameOf frameFrom easingFits
-        next-frame m = rw (next-time m, value, and-both (ltb (k .easing .kind) 38) (fitsRecordOf (easingIn (easingFrom (k .easing)))) easing .1)
+        next-frame m = rw (next-time m, value, and-both (isKind (k .easing .kind)) (fitsRecordOf (easingIn (easingFrom (k .easing)))) easing .1)
 
         next-fine : T (le (k .time) topF) → framesAfter (k .time) (drop (i + 1) (take (w .count) (framesRead w))) ≡ framesOf (take (w .count) (framesRead w))
         unfolding frameFrom
@@ -119,7 +118,7 @@ pub record Ended (w : LaxTrack) (secs t : Float) (low : ℕ) : Type 0 where
   pub before : Float
   pub seen : Seen w t before low (w .count)
   pub end : timeOf (getD (w .frames) (w .count - 1) noWords .time) ≡ true
-  pub clock : ltb (w .looping .mode) 5 && clockFits (w .elapsed) (loopIn (loopFrom (w .looping))) (getD (w .frames) (w .count - 1) noWords .time) ≡ true
+  pub clock : clockKnown (w .elapsed) (w .looping) (getD (w .frames) (w .count - 1) noWords .time) ≡ true
   pub cut : t ≡ cutOf (maxZeroOf secs) (getD (w .frames) (w .count - 1) noWords .time)
 
 module _ (w : LaxTrack) (secs t : Float) (low : ℕ) (x : Ended w secs t low) where
@@ -138,8 +137,8 @@ module _ (w : LaxTrack) (secs t : Float) (low : ℕ) (x : Ended w secs t low) wh
   all-fine : framesOf (take (w .count) (framesRead w)) ≡ true
   all-fine = sym (x .seen .fine last-top) ∙ after-end (framesRead w) (w .count) long (x .before)
 
-  clock-parts : (ltb (w .looping .mode) 5 ≡ true) × (clockFits (w .elapsed) (loopIn (loopFrom (w .looping))) (getD (w .frames) (w .count - 1) noWords .time) ≡ true)
-  clock-parts = and-both (ltb (w .looping .mode) 5) (clockFits (w .elapsed) (loopIn (loopFrom (w .looping))) (getD (w .frames) (w .count - 1) noWords .time)) (x .clock)
+  clock-parts : (isMode (w .looping .mode) ≡ true) × (clockFits (w .elapsed) (loopIn (loopFrom (w .looping))) (getD (w .frames) (w .count - 1) noWords .time) ≡ true)
+  clock-parts = and-both (isMode (w .looping .mode)) (clockFits (w .elapsed) (loopIn (loopFrom (w .looping))) (getD (w .frames) (w .count - 1) noWords .time)) (x .clock)
 
   all-known : knownTrack w ≡ true
   unfolding knownTrack

@@ -1,8 +1,8 @@
 -- Words of which a value is answered pass every test of the walk along their frames; so where a test fails, none is. Assumes nothing.
 use Prim.Native.Nat.{ℕ, zero, suc, _-_, _<_, _≤_}
 use native.Mathlib.Omega.{arith}
-use mathlib.Core.Path.{_≡_, refl, sym, _∙_}
-use mathlib.Core.Bool.{Bool, true, false, _&&_, _||_, cond, false≢true}
+use mathlib.Core.Path.{_≡_, refl, _∙_}
+use mathlib.Core.Bool.{Bool, true, false, _||_, cond}
 use mathlib.Core.List.{List, [], _∷_}
 use mathlib.Core.Logic.{⊎-elim}
 use lib.Dec.{eqb, ltb}
@@ -17,17 +17,17 @@ use Rattle.easing.specs.declared.answers.Eased.{Eased}
 use Rattle.easing.specs.declared.answers.Eased.the-variants as eased
 use Rattle.frames.specs.Limits.{timeOf, frameOf, framesOf, beforeAll, noFrame}
 use Rattle.frames.proofs.Rising.{each-fine, above, rising, time-fine, value-fine, easing-fine}
-use Rattle.keyframe.specs.Limits.{clockFits, withinOf}
+use Rattle.keyframe.specs.Limits.{withinOf}
 use Rattle.keyframe.specs.Sampling.{valueAtOf}
 use Rattle.keyframe.specs.Refusing.{unless}
 use Rattle.keyframe.proofs.Records.{few-frames, frames-fine, last-time, clocked}
 use Rattle.words.specs.declared.tracks.LaxKeyframe.{LaxKeyframe}
 use Rattle.words.specs.declared.tracks.LaxTrack.{LaxTrack}
 use Rattle.words.specs.declared.sampling.Quick.the-variants.{Value, Unsure}
-use Rattle.words.specs.Kinds.{easingFrom}
-use Rattle.words.specs.Modes.{loopFrom}
-use Rattle.words.specs.Tracks.{placesIn, loopIn, knownKinds, knownTrack, frameFrom, trackFrom}
-use Rattle.words.specs.Sampling.{easingFits, quickFrom, quickOf}
+use Rattle.words.specs.Kinds.{isKind}
+use Rattle.words.specs.Modes.{isMode}
+use Rattle.words.specs.Tracks.{placesIn, knownKinds, knownTrack, frameFrom, trackFrom}
+use Rattle.words.specs.Sampling.{easingFits, clockKnown, quickFrom, quickOf}
 use Rattle.words.proofs.Known.{noWords, all-places}
 use Rattle.words.proofs.Seen.{framesRead, AtStart, Past, Seen, read-long, frame-at, time-at}
 
@@ -49,11 +49,11 @@ unsure w secs never = go (knownTrack w) (withinOf (trackFrom w)) (ltb 0 (w .coun
     go true true false a b v p q never = q
     go true true true a b v p q never = absurd (never refl refl refl)
 
-each-known : (l : List LaxKeyframe) → knownKinds l ≡ true → (i : ℕ) → i < length l → ltb (getD l i noWords .easing .kind) 38 ≡ true
+each-known : (l : List LaxKeyframe) → knownKinds l ≡ true → (i : ℕ) → i < length l → isKind (getD l i noWords .easing .kind) ≡ true
 unfolding knownKinds
 each-known [] h i b = absurd (omega (arith, b))
-each-known (k ∷ ks) h zero b = and-both (ltb (k .easing .kind) 38) (knownKinds ks) h .0
-each-known (k ∷ ks) h (suc i) b = each-known ks (and-both (ltb (k .easing .kind) 38) (knownKinds ks) h .1) i (omega (arith, b))
+each-known (k ∷ ks) h zero b = and-both (isKind (k .easing .kind)) (knownKinds ks) h .0
+each-known (k ∷ ks) h (suc i) b = each-known ks (and-both (isKind (k .easing .kind)) (knownKinds ks) h .1) i (omega (arith, b))
 
 module _ (w : LaxTrack) (long : length (w .frames) ≡ 64) (x : Answered w) where
   pub most : w .count ≤ 64
@@ -84,9 +84,9 @@ module _ (w : LaxTrack) (long : length (w .frames) ≡ 64) (x : Answered w) wher
   unfolding frameFrom
   value j h = value-fine _ (frame j h)
 
-  kinds : (knownKinds (take (w .count) (w .frames)) ≡ true) × (ltb (w .looping .mode) 5 ≡ true)
+  kinds : (knownKinds (take (w .count) (w .frames)) ≡ true) × (isMode (w .looping .mode) ≡ true)
   unfolding knownTrack
-  kinds = rw (all-places (w .count) most) at (and-both (knownKinds (take (placesIn (w .count)) (w .frames))) (ltb (w .looping .mode) 5) (x .known))
+  kinds = rw (all-places (w .count) most) at (and-both (knownKinds (take (placesIn (w .count)) (w .frames))) (isMode (w .looping .mode)) (x .known))
 
   pub easing : (j : ℕ) → j < w .count → easingFits (getD (w .frames) j noWords .easing) ≡ true
   unfolding easingFits frameFrom
@@ -94,7 +94,7 @@ module _ (w : LaxTrack) (long : length (w .frames) ≡ 64) (x : Answered w) wher
       let k = rw (getD-take (w .count) (w .frames) j noWords h) at (each-known (take (w .count) (w .frames)) (kinds .0) j (omega (arith, length-take-le (w .count) (w .frames) fit))) in
       rw (k, easing-fine _ (frame j h))
 
-  pub clock : ltb (w .looping .mode) 5 && clockFits (w .elapsed) (loopIn (loopFrom (w .looping))) (getD (w .frames) (w .count - 1) noWords .time) ≡ true
+  pub clock : clockKnown (w .elapsed) (w .looping) (getD (w .frames) (w .count - 1) noWords .time) ≡ true
   unfolding trackFrom
   clock =
       let base = last-time (framesRead w) (w .count) (read-long w fit most) (λ z. omega (arith, z, x .some)) ∙ time-at w fit most (w .count - 1) (omega (arith, x .some)) in

@@ -1,6 +1,6 @@
 -- An easing as six words, for the C interface: the kind's place in `all_named` from 0, up to four parameters and a count.
 use Prim.Native.Nat.{ℕ}
-use mathlib.Core.Bool.{cond}
+use mathlib.Core.Bool.{Bool, cond}
 use lib.ListN.{getD}
 use lib.Dec.{ltb}
 use lib.Ieee.{Float}
@@ -14,6 +14,10 @@ use Rattle.words.specs.declared.kinds.EasingRead.the-variants.{Known, Un
 
 abbrev pub words : ℕ → Float → Float → Float → Float → ℕ → LaxEasing
 words k a b c d n = record { kind = k; a = a; b = b; c = c; d = d; count = n }
+
+-- one of the 38
+abbrev pub isKind : ℕ → Bool
+isKind k = ltb k 38
 
 -- the kind of e, with the parameters of w
 unfoldable pub withParameters : LaxEasing → Easing → Easing
@@ -58,7 +62,7 @@ withParameters w (ExpoScale start end) = ExpoScale (w .a) (w .b)
 
 -- a word that is no kind is Unknown
 unfoldable pub easingFrom : LaxEasing → EasingRead
-easingFrom w = cond (ltb (w .kind) 38) (Known (withParameters w (getD allNamed (w .kind) Linear))) Unknown
+easingFrom w = cond (isKind (w .kind)) (Known (withParameters w (getD allNamed (w .kind) Linear))) Unknown
 
 -- words that a kind has no use for are 0
 unfoldable pub easingWords : Easing → LaxEasing

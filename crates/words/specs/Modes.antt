@@ -1,7 +1,7 @@
 -- A loop mode and a tween's state as words, for the C interface.
 use Prim.Native.Nat.{ℕ}
 use mathlib.Core.Bool.{Bool, cond}
-use lib.Dec.{eqb}
+use lib.Dec.{ltb, eqb}
 use Rattle.loop_mode.specs.declared.Loop.{Loop}
 use Rattle.loop_mode.specs.declared.Loop.the-variants.{Once, Times, Forever, PingPong, PingPongTimes}
 use Rattle.tween.specs.declared.record.TweenState.{TweenState}
@@ -11,6 +11,10 @@ use Rattle.words.specs.declared.modes.LoopRead.{LoopRead}
 use Rattle.words.specs.declared.modes.LoopRead.the-variants as mode
 use Rattle.words.specs.declared.modes.StateRead.{StateRead}
 use Rattle.words.specs.declared.modes.StateRead.the-variants as state
+
+-- one of the five
+abbrev pub isMode : ℕ → Bool
+isMode m = ltb m 5
 
 -- 0 Once, 1 Times, 2 Forever, 3 PingPong, 4 PingPongTimes
 unfoldable pub loopFrom : LaxLoop → LoopRead

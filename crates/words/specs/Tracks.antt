@@ -4,12 +4,12 @@ use mathlib.Core.Bool.{Bool, true, not, cond, _&&_}
 use mathlib.Core.List.{List, [], _∷_, _++_, map}
 use lib.Dec.{ltb, eqb}
 use lib.ListN.{take, drop, replicate}
-use Rattle.math.specs.Rounded.{zeroF}
 use Rattle.easing.specs.declared.kinds.Easing.{Easing}
 use Rattle.easing.specs.declared.kinds.Easing.the-variants.{Linear}
 use Rattle.loop_mode.specs.declared.Loop.{Loop}
 use Rattle.loop_mode.specs.declared.Loop.the-variants.{Once}
 use Rattle.frames.specs.declared.frame.Keyframe.{Keyframe}
+use Rattle.frames.specs.Limits.{blank}
 use Rattle.keyframe.specs.declared.types.Track.{Track}
 use Rattle.words.specs.declared.kinds.EasingRead.{EasingRead}
 use Rattle.words.specs.declared.kinds.EasingRead.the-variants as kind
@@ -17,8 +17,8 @@ use Rattle.words.specs.declared.modes.LoopRead.{LoopRead}
 use Rattle.words.specs.declared.modes.LoopRead.the-variants as mode
 use Rattle.words.specs.declared.tracks.LaxKeyframe.{LaxKeyframe}
 use Rattle.words.specs.declared.tracks.LaxTrack.{LaxTrack}
-use Rattle.words.specs.Kinds.{easingFrom, easingWords}
-use Rattle.words.specs.Modes.{loopFrom, loopWords, flagWord}
+use Rattle.words.specs.Kinds.{isKind, easingFrom, easingWords}
+use Rattle.words.specs.Modes.{isMode, loopFrom, loopWords, flagWord}
 
 -- how many of the 64 places are looked at
 abbrev pub placesIn : ℕ → ℕ
@@ -27,11 +27,11 @@ placesIn count = cond (ltb count 64) count 64
 -- every kind is one of the 38
 unfoldable pub knownKinds : List LaxKeyframe → Bool
 knownKinds [] = true
-knownKinds (w ∷ ws) = ltb (w .easing .kind) 38 && knownKinds ws
+knownKinds (w ∷ ws) = isKind (w .easing .kind) && knownKinds ws
 
 -- and the mode one of the five
 unfoldable pub knownTrack : LaxTrack → Bool
-knownTrack w = knownKinds (take (placesIn (w .count)) (w .frames)) && ltb (w .looping .mode) 5
+knownTrack w = knownKinds (take (placesIn (w .count)) (w .frames)) && isMode (w .looping .mode)
 
 -- a kind that is none reads as Linear, a mode that is none as Once; `knownTrack` is asked first
 abbrev pub easingIn : EasingRead → Easing
@@ -45,8 +45,9 @@ loopIn mode.Unknown = Once
 unfoldable pub frameFrom : LaxKeyframe → Keyframe
 frameFrom w = record { time = w .time; value = w .value; easing = easingIn (easingFrom (w .easing)) }
 
+-- 64 places without a frame
 abbrev pub blanks : List Keyframe
-blanks = replicate 64 (record { time = zeroF; value = zeroF; easing = Linear })
+blanks = replicate 64 blank
 
 -- the places behind the frames are not looked at
 unfoldable pub framesFrom : List LaxKeyframe → ℕ → List Keyframe

@@ -1,13 +1,9 @@
 // The value of a track at a time, straight from its words: no track is built.
 ghost use mathlib.Core.Path.{_≡_};
-ghost use mathlib.Core.Bool.{_&&_};
-ghost use lib.Dec.{ltb};
 ghost use Rattle.words.specs.Kinds.{easingFrom};
-ghost use Rattle.words.specs.Modes.{loopFrom};
-ghost use Rattle.words.specs.Tracks.{easingIn, loopIn, frameFrom};
-ghost use Rattle.words.specs.Sampling.{plainKind, easingFits, quickOf};
+ghost use Rattle.words.specs.Tracks.{easingIn, frameFrom};
+ghost use Rattle.words.specs.Sampling.{plainKind, easingFits, clockKnown, quickOf};
 ghost use Rattle.frames.specs.Sampling.{easedOf, betweenOf};
-ghost use Rattle.keyframe.specs.Limits.{clockFits};
 use crate::kinds::EasingRead;
 use crate::kinds::LaxEasing;
 use crate::kinds::easing_of;
@@ -60,8 +56,8 @@ fn between(k: LaxKeyframe, l: LaxKeyframe, t: f32) -> f32
     math::blend(k.value, l.value, eased(e, p))
 }
 
-fn clock_fits(looping: LaxLoop, elapsed: f32, base: f32) -> bool
-    ensures { λ r. ⌜ r ≡ ltb (looping .mode) 5 && clockFits elapsed (loopIn (loopFrom looping)) base ⌝ }
+fn clock_fits(elapsed: f32, looping: LaxLoop, base: f32) -> bool
+    ensures { λ r. ⌜ r ≡ clockKnown elapsed looping base ⌝ }
 {
     (looping.mode < 5) & keyframe::clock_fits(elapsed, mode_of(looping), base)
 }
@@ -78,7 +74,7 @@ pub fn quick_value_at(w: LaxTrack, secs: f32) -> Quick
     let first = w.frames[0];
     let last = w.frames[n - 1];
     let ends = frames::is_time(first.time) & frames::is_time(last.time);
-    if !(ends & clock_fits(w.looping, w.elapsed, last.time)) {
+    if !(ends & clock_fits(w.elapsed, w.looping, last.time)) {
         return Quick::Unsure;
     }
     let t = frames::cut(math::max_zero(secs), last.time);

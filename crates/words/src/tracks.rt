@@ -80,12 +80,7 @@ fn frame_of(w: LaxKeyframe) -> Keyframe
 fn frames_of(words: [LaxKeyframe; 64], count: usize) -> [Keyframe; 64]
     ensures { λ r. ⌜ r ≡ framesFrom words count ⌝ }
 {
-    let blank = Keyframe {
-        time: 0.0,
-        value: 0.0,
-        easing: Easing::Linear,
-    };
-    let mut frames = [blank; 64];
+    let mut frames = [frames::blank(); 64];
     let n = places(count);
     let mut i: usize = 0;
     while i < n {
@@ -121,7 +116,7 @@ pub fn track_of(w: LaxTrack) -> Track
     }
 }
 
-fn frame_words(k: Keyframe) -> LaxKeyframe
+pub fn frame_words(k: Keyframe) -> LaxKeyframe
     ensures { λ r. ⌜ r ≡ frameWords k ⌝ }
 {
     let easing = k.easing;

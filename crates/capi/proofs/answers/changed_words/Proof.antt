@@ -13,5 +13,6 @@ changed-words-spec =
     (λ c κs. search needs)
     (λ c. search needs)
     (λ c κs. search needs)
+    (λ c κs. search needs)
     (λ c. simp (c .tween-words .ensures, c .before .before .a .given .1))
-    (λ c. simp (c .number .ensures, c .before .before .a2 .given .1)))
+    (λ c. simp (c .unchanged .ensures, c .before .number .ensures, c .before .before .before .a2 .given .1)))

@@ -14,5 +14,6 @@ updated-words-spec =
     (λ c κs. search needs)
     (λ c. search needs)
     (λ c κs. search needs)
+    (λ c κs. search needs)
     (λ c. simp (c .tween-words .ensures, c .before .flag-word .ensures, c .before .before .before .a .given .1))
-    (λ c. simp (c .number .ensures, c .before .before .a2 .given .1)))
+    (λ c. simp (c .not-updated .ensures, c .before .number .ensures, c .before .before .before .a2 .given .1)))

@@ -15,4 +15,4 @@ track-changed-words-spec =
     (λ c κs. search needs)
     (λ c κs. search needs)
     (λ c. simp (c .track-words .ensures, c .before .before .before .enum-told .given .1))
-    (λ c. simp (c .refused .ensures, c .before .number .ensures, c .before .before .before .outcome .given .1)))
+    (λ c. simp (c .untouched .ensures, c .before .number .ensures, c .before .before .before .outcome .given .1)))

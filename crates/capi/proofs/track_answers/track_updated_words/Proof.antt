@@ -16,4 +16,4 @@ track-updated-words-spec =
     (λ c κs. search needs)
     (λ c κs. search needs)
     (λ c. simp (c .track-words .ensures, c .before .flag-word .ensures, c .before .before .before .before .before .stepped .given .1))
-    (λ c. simp (c .stood .ensures, c .before .number .ensures, c .before .before .before .stepped2 .given .1)))
+    (λ c. simp (c .not-stepped .ensures, c .before .number .ensures, c .before .before .before .stepped2 .given .1)))

@@ -12,4 +12,5 @@ lax-track-new-spec =
     (λ c κs. search needs)
     (λ c κs. search needs)
     (λ c κs. search needs)
-    (λ c. simp (c .track-words .ensures, c .before .new .ensures, c .before .before .easing-words .ensures)))
+    (λ c κs. search needs)
+    (λ c. simp (c .track-words .ensures, c .before .new .ensures, c .before .before .frame-words .ensures, c .before .before .before .blank .ensures)))

@@ -15,4 +15,4 @@ lax-track-reset-spec =
     (λ c κs. search needs)
     (λ c. simp (← (c .before .before .before .before .is-known .ensures), c .before .before .before .if1 .taken, c .track-changed-words .ensures, c .before .reset .ensures, c .before .before .track-of .ensures))
     (λ c κs. search needs)
-    (λ c. simp (← (c .before .before .is-known .ensures), c .before .if1 .left, c .refused .ensures)))
+    (λ c. simp (← (c .before .before .is-known .ensures), c .before .if1 .left, c .untouched .ensures)))

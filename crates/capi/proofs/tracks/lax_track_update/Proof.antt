@@ -15,4 +15,4 @@ lax-track-update-spec =
     (λ c κs. search needs)
     (λ c. simp (← (c .before .before .before .before .is-known .ensures), c .before .before .before .if1 .taken, c .track-updated-words .ensures, c .before .update .ensures, c .before .before .track-of .ensures))
     (λ c κs. search needs)
-    (λ c. simp (← (c .before .before .is-known .ensures), c .before .if1 .left, c .stood .ensures)))
+    (λ c. simp (← (c .before .before .is-known .ensures), c .before .if1 .left, c .not-stepped .ensures)))

@@ -14,5 +14,6 @@ lax-tween-reverse-spec =
     (λ c κs. search needs)
     (λ c κs. search needs)
     (λ c. search needs)
+    (λ c κs. search needs)
     (λ c. simp (← (c .before .before .before .before .before .tween-of .ensures), c .before .before .before .t .given .1, c .changed-words .ensures, c .before .reverse .ensures))
-    (λ c. simp (← (c .before .before .tween-of .ensures), c .enum-told .given .1)))
+    (λ c. simp (← (c .before .before .before .tween-of .ensures), c .before .enum-told .given .1, c .unchanged .ensures)))

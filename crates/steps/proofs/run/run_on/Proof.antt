@@ -4,7 +4,7 @@ use native.Mathlib.Omega.{arith}
 use mathlib.Core.Path.{sym, _∙_, subst}
 use borrow.Author.Needs.{needs}
 use lib.ListN.{length}
-use Rattle.tween.specs.Gliding.{Glides}
+use Rattle.tween.specs.Inner.{Glides}
 use Rattle.steps.proofs.Courses.{Reached, begins, goes-on, stops, finishes}
 use Rattle.steps.proofs.Taking.{took-within, glide-within, glide-took}
 use Rattle.steps.proofs.run.run_on.Statement.{statement}

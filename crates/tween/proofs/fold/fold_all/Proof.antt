@@ -5,7 +5,7 @@ use mathlib.Core.Path.{_≡_, refl, ap, _∙_}
 use borrow.Author.Needs.{needs}
 use Rattle.tween.specs.declared.fold.Folding.{Folding}
 use Rattle.tween.specs.Folds.{due, foldsOf}
-use Rattle.tween.proofs.Stepping.{folds-none, folds-done, folds-next, count-grows}
+use Rattle.tween.proofs.Folds.{folds-none, folds-done, folds-next, count-grows}
 use Rattle.tween.proofs.Ways.{fold-counts}
 use Rattle.tween.proofs.fold.fold_all.Statement.{statement}
 use Rattle.tween.proofs.fold.fold_all.Tie as tie

@@ -1,7 +1,7 @@
 -- `step_on` meets its contract: what is left, once it has begun, is the definition by state. Assumes nothing.
 use borrow.Author.Needs.{needs}
 use lib.Ieee.{ofBits}
-use Rattle.tween.proofs.Told.{within-count}
+use Rattle.tween.proofs.Bounds.{within-count}
 use Rattle.tween.specs.Update.{updateOf}
 use Rattle.tween.proofs.step.step_on.Statement.{statement}
 use Rattle.tween.proofs.step.step_on.Tie as tie

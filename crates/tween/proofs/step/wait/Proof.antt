@@ -1,15 +1,16 @@
 -- `wait` meets its contract. Assumes nothing.
 use mathlib.Core.Path.{_≡_}
-use mathlib.Core.Bool.{false, _&&_}
-use lib.Ieee.{Float, ofBits, lt, eq}
-use Rattle.math.specs.Rounded.{zeroF, _⊕_, _⊖_, _⊗_}
+use mathlib.Core.Bool.{false}
+use lib.Ieee.{Float, ofBits, lt}
+use Rattle.math.specs.Rounded.{_⊕_, _⊖_, _⊗_}
 use Rattle.tween.specs.declared.record.Tween.{Tween}
-use Rattle.tween.specs.Update.{advanced, waitOf}
+use Rattle.tween.specs.declared.record.TweenState.the-variants.{Idle}
+use Rattle.tween.specs.Update.{advanced, lostOf, waitOf}
 use Rattle.tween.proofs.step.wait.Statement.{statement}
 use Rattle.tween.proofs.step.wait.Tie as tie
 
 -- the delay is over, and nothing is lost
-over : (t : Tween) (x w : Float) → lt zeroF x && eq w (t .«delay_elapsed») ≡ false → lt w (t .delay) ≡ false
+over : (t : Tween) (x w : Float) → lostOf Idle t x w ≡ false → lt w (t .delay) ≡ false
     → advanced t w (t .elapsed ⊕ (w ⊖ t .delay) ⊗ t .«time_scale») ≡ waitOf t x w
 unfolding waitOf
 over t x w a b = rw (a, b)

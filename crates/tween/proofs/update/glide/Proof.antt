@@ -2,7 +2,7 @@
 use borrow.Author.Needs.{needs}
 use lib.Ieee.{ofBits}
 use Rattle.tween.specs.Update.{byState, updateOf}
-use Rattle.tween.proofs.Told.{within-count}
+use Rattle.tween.proofs.Bounds.{within-count}
 use Rattle.tween.proofs.Glides.{glides}
 use Rattle.tween.proofs.update.glide.Statement.{statement}
 use Rattle.tween.proofs.update.glide.Tie as tie

@@ -1,7 +1,6 @@
 -- `easing_fits` meets its contract: a plain kind fits, and each arm is told its answer. Assumes nothing.
 use borrow.Author.Needs.{needs}
 use mathlib.Core.Path.{sym}
-use Rattle.words.specs.Sampling.{easingFits}
 use Rattle.words.proofs.Fitting.{plain-fits, known-fits, unknown-fits}
 use Rattle.words.proofs.sampling.easing_fits.Statement.{statement}
 use Rattle.words.proofs.sampling.easing_fits.Tie as tie

@@ -6,15 +6,12 @@ use mathlib.Core.Logic.{⊎-elim}
 use native.Mathlib.Omega.{arith}
 use borrow.Author.Needs.{needs}
 use borrow.Author.Tests.{not-true, not-false}
-use lib.Dec.{ltb}
 use lib.ListN.{length, getD}
 use lib.Ieee.{ofBits, neg, lt}
 use Rattle.math.proofs.Choice.{and-both}
 use Rattle.frames.specs.Limits.{timeOf}
 use Rattle.frames.proofs.Scans.{Scanned, scan-yes, scan-no}
-use Rattle.keyframe.specs.Limits.{clockFits}
-use Rattle.words.specs.Modes.{loopFrom}
-use Rattle.words.specs.Tracks.{loopIn}
+use Rattle.words.specs.Sampling.{clockKnown}
 use Rattle.words.proofs.Known.{words-long, few-places, noWords}
 use Rattle.words.proofs.Seen.{Seen, Ended, seen-none, seen-more, time-at, framesRead, quick-first, quick-last, place-found, quick-between}
 use Rattle.words.proofs.Tested.{unsure}
@@ -36,7 +33,7 @@ ready : (c : tie.Else2 Inv-loop μ-loop)
     → let w = c .before .before .before .before .before .before .before .before .args .t1 in
     (timeOf (getD (w .frames) 0 noWords .time) ≡ true)
     × (timeOf (getD (w .frames) (w .count - 1) noWords .time) ≡ true)
-    × (ltb (w .looping .mode) 5 && clockFits (w .elapsed) (loopIn (loopFrom (w .looping))) (getD (w .frames) (w .count - 1) noWords .time) ≡ true)
+    × (clockKnown (w .elapsed) (w .looping) (getD (w .frames) (w .count - 1) noWords .time) ≡ true)
 ready c =
     let a = c .before .before .before .before .is-time in
     let b = c .before .before .before .is-time2 in

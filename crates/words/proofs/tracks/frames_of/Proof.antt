@@ -23,6 +23,7 @@ frames-of-spec =
     Inv-loop
     μ-loop
     (λ c κs. search needs)
+    (λ c κs. search needs)
     (λ c. (search needs, refl, refl))
     (λ c. search needs)
     (λ c. search needs)
@@ -33,11 +34,11 @@ frames-of-spec =
     (λ c. search needs)
     (λ c.
     let s = c .before .before .before in
-    let b = s .before .before in
+    let b = s .before .before .before in
     let t = b .args .t1 in
     let l : length t ≡ 64 = b .good .0 .1 .0 .1 in
     (omega arith, simp length-set (s .loop .inv .1), rw (c .frame-of .ensures, s .loop .inv .2) (fill-more frameFrom _ t _ (omega arith) (s .loop .i) (omega arith))))
     (λ c.
     let s = c .before in
     let e : s .loop .i ≡ s .before .places .result = omega arith in
-    s .loop .inv .2 ∙ (rw (e, s .before .places .ensures .1) refl)))
+    s .loop .inv .2 ∙ (rw (e, s .before .places .ensures .1, s .before .before .blank .ensures) refl)))

@@ -1,9 +1,9 @@
--- `update` meets its contract, by what `step_on` ensures. Assumes nothing.
+-- `update` meets its contract, by what `glide` and `step_on` ensure. Assumes nothing.
 use mathlib.Core.Path.{sym, subst}
 use borrow.Author.Needs.{needs}
 use Rattle.math.proofs.Choice.{fails, passes}
 use Rattle.tween.specs.Update.{updateOf}
-use Rattle.tween.specs.Gliding.{Glides}
+use Rattle.tween.specs.Inner.{Glides}
 use Rattle.tween.proofs.Glides.{goes-to}
 use Rattle.tween.proofs.record.Tween.update.Statement.{statement}
 use Rattle.tween.proofs.record.Tween.update.Tie as tie
