@@ -5,6 +5,7 @@ use lib.Dec.{eqb}
 use lib.Ieee.{Float, isNan}
 use Rattle.math.specs.Range.{clamp01Of}
 use Rattle.refusal.specs.declared.Refusal.the-variants.{ProgressIsNan, EasingNotSupplied, EasingParameter}
+use Rattle.refusal.specs.Refusing.{unless}
 use Rattle.easing.specs.declared.kinds.Easing.{Easing}
 use Rattle.easing.specs.declared.answers.Eased.{Eased}
 use Rattle.easing.specs.declared.answers.Eased.the-variants.{Value, Refused}
@@ -15,7 +16,7 @@ use Rattle.easing.specs.Params.{paramsOf, withinOf, equalOf}
 
 -- 3 where a parameter is not within its limits
 abbrev pub limitedOf : Bool → Float → Eased
-limitedOf fine v = cond fine (Value v) (Refused EasingParameter)
+limitedOf fine v = unless fine (Refused EasingParameter) (Value v)
 
 -- the curve at t, where there is one; `fine` says whether the parameters are within their limits
 abbrev pub easedAt : Option (Float → Float) → Bool → Float → Eased
@@ -37,6 +38,6 @@ sameOf x y = eqb (numberOf x) (numberOf y) && equalOf (paramsOf x) (paramsOf y)
 -- "`PartialEq` without `Custom` (2 and 3 apply to either side)"
 unfoldable pub eqOf : Easing → Easing → Equality
 eqOf x y =
-    cond (suppliedOf x && suppliedOf y)
-    (cond (withinOf (paramsOf x) && withinOf (paramsOf y)) (equality.Equal (sameOf x y)) (equality.Refused EasingParameter))
-    (equality.Refused EasingNotSupplied)
+    unless (suppliedOf x && suppliedOf y) (equality.Refused EasingNotSupplied)
+    (unless (withinOf (paramsOf x) && withinOf (paramsOf y)) (equality.Refused EasingParameter)
+    (equality.Equal (sameOf x y)))

@@ -10,7 +10,7 @@ use Rattle.refusal.specs.Number.{numberOf}
 use Rattle.frames.specs.Sampling.{filledOf}
 use Rattle.keyframe.specs.declared.types.Track.{Track}
 use Rattle.keyframe.specs.Limits.{framesIn, withinOf}
-use Rattle.keyframe.specs.Refusing.{unless}
+use Rattle.refusal.specs.Refusing.{unless}
 
 -- "The refusal number, 0 for none": 4, 10, 12
 unfoldable pub batchNumber : Track → List Float → List Float → ℕ

@@ -1,4 +1,3 @@
-pub mod Refusing
 pub mod Limits
 pub mod Pushing
 pub mod Playback

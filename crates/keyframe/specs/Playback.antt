@@ -18,7 +18,7 @@ use Rattle.keyframe.specs.declared.types.End.the-variants.{At, Never}
 use Rattle.keyframe.specs.declared.types.Completion.{Completion}
 use Rattle.keyframe.specs.declared.types.Completion.the-variants as completion
 use Rattle.keyframe.specs.Limits.{baseOf, endOf, withinOf}
-use Rattle.keyframe.specs.Refusing.{unless}
+use Rattle.refusal.specs.Refusing.{unless}
 
 -- the remainder is exact
 infixl 7 _%%_

@@ -21,7 +21,7 @@ use Rattle.keyframe.specs.declared.types.Track.{Track}
 use Rattle.keyframe.specs.declared.types.Changed.{Changed}
 use Rattle.keyframe.specs.declared.types.Outcome.the-variants.{Done, Refused}
 use Rattle.keyframe.specs.Limits.{baseOf, modeFits, withinOf}
-use Rattle.keyframe.specs.Refusing.{unless}
+use Rattle.refusal.specs.Refusing.{unless}
 
 -- "Each refusal hands back the record unchanged .. and the number"
 abbrev pub refused : Track → Refusal → Changed

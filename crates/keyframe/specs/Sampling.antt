@@ -7,7 +7,7 @@ use Rattle.easing.specs.declared.answers.Eased.the-variants.{Value, Refused}
 use Rattle.frames.specs.Sampling.{sampleOf}
 use Rattle.keyframe.specs.declared.types.Track.{Track}
 use Rattle.keyframe.specs.Limits.{framesIn, withinOf}
-use Rattle.keyframe.specs.Refusing.{unless}
+use Rattle.refusal.specs.Refusing.{unless}
 use Rattle.keyframe.specs.Playback.{activeOf}
 
 -- 4, then 10: "sampling a track with no frames"

@@ -17,7 +17,7 @@ use Rattle.keyframe.specs.declared.types.Updated.{Updated}
 use Rattle.keyframe.specs.declared.types.Stepped.the-variants as stepped
 use Rattle.keyframe.specs.declared.types.End.{End}
 use Rattle.keyframe.specs.declared.types.End.the-variants.{At, Never}
-use Rattle.keyframe.specs.Refusing.{unless}
+use Rattle.refusal.specs.Refusing.{unless}
 use Rattle.keyframe.specs.Limits.{baseOf, endOf, withinOf}
 use Rattle.keyframe.specs.Pushing.{refused, changed}
 use Rattle.keyframe.specs.Playback.{doneOf}

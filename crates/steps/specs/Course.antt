@@ -1,12 +1,13 @@
 -- A run of steps, by `update` and `value` and nothing else.
 use Prim.Native.Nat.{ℕ}
-use mathlib.Core.Bool.{_&&_, cond}
+use mathlib.Core.Bool.{_&&_}
 use mathlib.Core.List.{List, [], _∷_, _++_}
 use lib.Dec.{leb}
 use lib.ListN.{length, drop}
 use lib.Ieee.{Float}
 use Rattle.refusal.specs.declared.Refusal.{Refusal}
 use Rattle.refusal.specs.declared.Refusal.the-variants.{RecordBreaksLimit, OutputTooShort}
+use Rattle.refusal.specs.Refusing.{unless}
 use Rattle.easing.specs.declared.answers.Eased.{Eased}
 use Rattle.easing.specs.declared.answers.Eased.the-variants as eased
 use Rattle.tween.specs.declared.record.Tween.{Tween}
@@ -61,9 +62,9 @@ courseOf (x ∷ steps) t = followed (stepOf t x) t (courseOf steps)
 -- 4; 12 where a lent list is shorter than the steps
 unfoldable pub runOf : Tween → List Float → List Float → List ℕ → Course
 runOf t steps values folds =
-    cond (withinOf t)
-    (cond (leb (length steps) (length values) && leb (length steps) (length folds)) (courseOf steps t) (stopped t OutputTooShort))
-    (stopped t RecordBreaksLimit)
+    unless (withinOf t) (stopped t RecordBreaksLimit)
+    (unless (leb (length steps) (length values) && leb (length steps) (length folds)) (stopped t OutputTooShort)
+    (courseOf steps t))
 
 abbrev pub answerOf : Course → Run
 answerOf c = record { tween = c .tween; done = length (c .values); outcome = c .outcome }

@@ -6,6 +6,7 @@ use Rattle.math.specs.Rounded.{zeroF, oneF, _⊕_, _⊖_, _⊗_, _⊘_}
 use Rattle.math.specs.Range.{clampOf, clamp01Of, maxZeroOf}
 use Rattle.math.specs.Blend.{blendOf}
 use Rattle.refusal.specs.declared.Refusal.the-variants.{ProgressIsNan, RecordBreaksLimit}
+use Rattle.refusal.specs.Refusing.{unless}
 use Rattle.units.specs.declared.InSeconds.{InSeconds}
 use Rattle.units.specs.declared.InSeconds.the-variants as seconds
 use Rattle.units.specs.declared.InProgress.{InProgress}
@@ -32,11 +33,11 @@ abbrev pub progressIn : Tween → Float
 progressIn t = cond (eq (t .duration) zeroF) oneF (clamp01Of (t .elapsed ⊘ t .duration))
 
 unfoldable pub progressOf : Tween → InProgress
-progressOf t = cond (withinOf t) (progress.Progress (record { 0 = progressIn t })) (progress.Refused RecordBreaksLimit)
+progressOf t = unless (withinOf t) (progress.Refused RecordBreaksLimit) (progress.Progress (record { 0 = progressIn t }))
 
 -- the curve at that progress
 unfoldable pub easedProgressOf : Tween → Eased
-easedProgressOf t = cond (withinOf t) (applyOf (t .easing) (progressIn t)) (eased.Refused RecordBreaksLimit)
+easedProgressOf t = unless (withinOf t) (eased.Refused RecordBreaksLimit) (applyOf (t .easing) (progressIn t))
 
 -- "ends exchanged while ping_pong_reverse"
 abbrev pub blendIn : Tween → Eased → Eased
@@ -46,11 +47,11 @@ blendIn t (eased.Refused r) = eased.Refused r
 -- "`value` is end if duration is 0; else the blend at the eased elapsed / duration"
 unfoldable pub valueOf : Tween → Eased
 valueOf t =
-    cond (withinOf t) (cond (eq (t .duration) zeroF) (eased.Value (t .end)) (blendIn t (applyOf (t .easing) (progressIn t))))
-    (eased.Refused RecordBreaksLimit)
+    unless (withinOf t) (eased.Refused RecordBreaksLimit)
+    (cond (eq (t .duration) zeroF) (eased.Value (t .end)) (blendIn t (applyOf (t .easing) (progressIn t))))
 
 unfoldable pub snapshotOf : Tween → Snapped
-snapshotOf t = cond (withinOf t) (snapped.Snapshot (snapshotIn t)) (snapped.Refused RecordBreaksLimit)
+snapshotOf t = unless (withinOf t) (snapped.Refused RecordBreaksLimit) (snapped.Snapshot (snapshotIn t))
 
 -- the delay and all passes, as the source adds them; without an end, infinity
 abbrev pub lasts : Loop → Float → Float → Float
@@ -62,11 +63,11 @@ lasts PingPong delay duration = inf false
 
 unfoldable pub playbackDurationOf : Tween → InSeconds
 playbackDurationOf t =
-    cond (withinOf t) (seconds.Seconds (record { 0 = lasts (t .looping) (t .delay) (t .duration) })) (seconds.Refused RecordBreaksLimit)
+    unless (withinOf t) (seconds.Refused RecordBreaksLimit) (seconds.Seconds (record { 0 = lasts (t .looping) (t .delay) (t .duration) }))
 
 -- 4 for a record that breaks a limit, else the answer
 abbrev pub limited : Tween → Changed → Changed
-limited t answer = cond (withinOf t) answer (Refused t RecordBreaksLimit)
+limited t answer = unless (withinOf t) (Refused t RecordBreaksLimit) answer
 
 -- "Idle if delay > 0, else Running"
 abbrev pub firstState : Float → TweenState

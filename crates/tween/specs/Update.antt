@@ -4,6 +4,7 @@ use lib.Ieee.{Float, lt, eq}
 use Rattle.math.specs.Rounded.{zeroF, topF, _⊕_, _⊖_, _⊗_}
 use Rattle.math.specs.Range.{maxZeroOf}
 use Rattle.refusal.specs.declared.Refusal.the-variants.{RecordBreaksLimit, StepTooLong, StepLost, TooManyFolds}
+use Rattle.refusal.specs.Refusing.{unless}
 use Rattle.tween.specs.declared.record.Tween.{Tween}
 use Rattle.tween.specs.declared.record.TweenSnapshot.{TweenSnapshot}
 use Rattle.tween.specs.declared.record.TweenState.{TweenState}
@@ -87,5 +88,6 @@ byState Running t x = runOf t x (t .elapsed ⊕ x ⊗ t .«time_scale»)
 -- the refusals in their order, 4, 5, 6, 7; "NaN, negative and -0 steps count as +0"
 unfoldable pub updateOf : Tween → Float → Updated
 updateOf t x =
-    cond (withinOf t) (cond (lt topF x) (Refused t StepTooLong) (byState (t .state) t (maxZeroOf x)))
-    (Refused t RecordBreaksLimit)
+    unless (withinOf t) (Refused t RecordBreaksLimit)
+    (cond (lt topF x) (Refused t StepTooLong)
+    (byState (t .state) t (maxZeroOf x)))

@@ -19,7 +19,7 @@ use Rattle.frames.specs.Limits.{timeOf, frameOf, framesOf, beforeAll, noFrame}
 use Rattle.frames.proofs.Rising.{each-fine, above, rising, time-fine, value-fine, easing-fine}
 use Rattle.keyframe.specs.Limits.{withinOf}
 use Rattle.keyframe.specs.Sampling.{valueAtOf}
-use Rattle.keyframe.specs.Refusing.{unless}
+use Rattle.refusal.specs.Refusing.{unless}
 use Rattle.keyframe.proofs.Records.{few-frames, frames-fine, last-time, clocked}
 use Rattle.words.specs.declared.tracks.LaxKeyframe.{LaxKeyframe}
 use Rattle.words.specs.declared.tracks.LaxTrack.{LaxTrack}
