@@ -13,12 +13,13 @@ use lib.Ieee.{Float, nan, inf, fin, binary32, unlike, up, down, round, lt, le, e
 use lib.Ieee.Fits.{up-pos, down-pos}
 use lib.Ieee.Exact.{HasValue, round-exact}
 use lib.Ieee.Order.{round-mono}
-use lib.Ieee.Scale.{round-same, grid, round-val, round-under}
+use lib.Ieee.Scale.{grid, round-val, round-under}
 use lib.Ieee.Positive.{positive-of-value, values-of-le}
 use Rattle.math.specs.Rounded.{_⊗_, _⊘_, zeroF, oneF}
 use Rattle.math.specs.Range.{clamp01Of, Within, AtMost}
 use Rattle.math.specs.Whole.{ceilOf, Is}
 use Rattle.math.proofs.Ceiling.{up-more, up-same, part-most, ceiling-most}
+use Rattle.math.proofs.Fitting.{rounds-none}
 use Rattle.math.proofs.Order.{times-none, lt-le, eq-self, lt-not-eq, le-numbers, le-of-not-lt, lt-le-chain, le-lt-chain}
 use Rattle.math.proofs.Wholes.{whole-is, div-is}
 use Rattle.math.proofs.Upward.{Up, up-none, round-up}
@@ -165,10 +166,12 @@ above-zero t n p q l =
 abbrev zero-at : Bool → Float
 zero-at s = fin s 0 (pos 0)
 
+like-itself : (s : Bool) → unlike s false ≡ s
+like-itself true = refl
+like-itself false = refl
+
 zero-rounds : (s : Bool) (a c : ℕ) → a ≡ 0 → 0 < c → round binary32 (unlike s false) a c ≡ zero-at s
-unfolding round
-zero-rounds false a c z C = round-same binary32 false a c 0 1 C (lit< tt) (omega (arith, z))
-zero-rounds true a c z C = round-same binary32 true a c 0 1 C (lit< tt) (omega (arith, z))
+zero-rounds s a c z C = rounds-none binary32 (unlike s false) a c z C ∙ ap zero-at (like-itself s)
 
 zero-floor : (s : Bool) → floorOf (zero-at s) ≡ zero-at s
 unfolding ofInt neg

@@ -1,31 +1,20 @@
 -- A blend by 0 equals its first value, where that is a value of binary32. Assumes nothing.
-use Prim.Native.Nat.{ℕ, zero, suc, _+_, _-_, _*_, _^_, _<_, _≤_}
+use Prim.Native.Nat.{ℕ, zero, suc, _+_, _-_, _*_, _<_}
 use mathlib.Core.Path.{_≡_, refl, sym, ap, _∙_, subst}
 use mathlib.Core.Bool.{Bool, true, false, _||_, Bool·beq, true≢false}
-use native.Mathlib.Nat.{mul-zero, mul-one, mul-pos, mul-assoc, mul-right-comm, mul-lt-mul-of-pos-right, lt-of-mul-lt-mul-right, zero-lt-suc, le-of-eq, lt-of-lt-of-le, lt-of-le-of-lt, add-comm}
+use native.Mathlib.Nat.{mul-zero, mul-one, mul-pos, zero-lt-suc}
 use native.Mathlib.Omega.{arith}
 use borrow.Author.Tests.{eq-eqb, eqb-true, le-ltb, lt-ltb}
-use lib.IntN.{ℤ, pos, negsuc}
-use lib.Pow.{pow-pos, pow-add}
+use lib.IntN.{ℤ, pos}
 use lib.Dec.{T, eqb, eqb·suc-zero}
-use lib.Ieee.{Float, nan, inf, fin, Format, binary32, emax, low, up, down, unlike, fits, round, sum, add, sub, mul, div, neg, lt, eq, ofBits}
+use lib.Ieee.{Float, nan, inf, fin, binary32, up, down, unlike, fits, round, sum, add, sub, mul, div, neg, lt, eq, ofBits}
 use lib.Ieee.Fits.{down-pos, up-pos}
-use lib.Ieee.Exact.{HasValue, round-exact}
-use lib.Ieee.Scale.{round-same}
+use lib.Ieee.Exact.{HasValue}
 use Rattle.math.specs.Rounded.{_⊕_, _⊖_, _⊗_, _⊘_, zeroF}
 use Rattle.math.specs.Range.{finiteOf}
 use Rattle.math.specs.Blend.{blendOf}
 use Rattle.math.proofs.Choice.{and-both}
-use Rattle.math.proofs.Fitting.{few-digits, in-reach, fine-grained, pow-at-most}
-
--- a rounded 0
-zero-form : (s : Bool) → round binary32 s 0 1 ≡ fin s 0 (pos 0)
-unfolding round
-zero-form true = refl
-zero-form false = refl
-
-pub rounds-none : (s : Bool) (a c : ℕ) → a ≡ 0 → 0 < c → round binary32 s a c ≡ fin s 0 (pos 0)
-rounds-none s a c h C = round-same binary32 s a c 0 1 C (zero-lt-suc 0) (omega (arith, h)) ∙ zero-form s
+use Rattle.math.proofs.Fitting.{rounds-none, round-held}
 
 -- x less itself, and 0 over a span above 0
 pub sub-self : (x : Float) → T (finiteOf x) → x ⊖ x ≡ zeroF
@@ -34,10 +23,10 @@ sub-self nan h = absurd h
 sub-self (inf s) h = absurd h
 sub-self (fin true m e) h =
     let a = m * up e * down e in
-    rw (le-ltb a a (omega arith)) (rounds-none false (a - a) (down e * down e) (omega arith) (mul-pos (down-pos e) (down-pos e)))
+    rw (le-ltb a a (omega arith)) (rounds-none binary32 false (a - a) (down e * down e) (omega arith) (mul-pos (down-pos e) (down-pos e)))
 sub-self (fin false m e) h =
     let a = m * up e * down e in
-    rw (le-ltb a a (omega arith)) (rounds-none false (a - a) (down e * down e) (omega arith) (mul-pos (down-pos e) (down-pos e)))
+    rw (le-ltb a a (omega arith)) (rounds-none binary32 false (a - a) (down e * down e) (omega arith) (mul-pos (down-pos e) (down-pos e)))
 
 pub zero-over : (y : Float) → T (finiteOf y) → T (lt zeroF y) → zeroF ⊘ y ≡ zeroF
 unfolding div lt ofBits
@@ -45,10 +34,10 @@ zero-over nan h k = absurd h
 zero-over (inf s) h k = absurd h
 zero-over (fin true m e) h k = absurd k
 zero-over (fin false zero e) h k = absurd (subst T (le-ltb (0 * 1 * down e) (0 * up e * 1) (omega arith)) k)
-zero-over (fin false (suc m) e) h k = rw (eqb·suc-zero m) (rounds-none false (0 * 1 * down e) (suc m * up e * 1) (omega arith) (mul-pos (mul-pos (zero-lt-suc m) (up-pos e)) (zero-lt-suc 0)))
+zero-over (fin false (suc m) e) h k = rw (eqb·suc-zero m) (rounds-none binary32 false (0 * 1 * down e) (suc m * up e * 1) (omega arith) (mul-pos (mul-pos (zero-lt-suc m) (up-pos e)) (zero-lt-suc 0)))
 
 -- a product with 0
-pub times-zero : (d c : Float) → T (finiteOf d) → eq c zeroF ≡ true → (s : Bool) × (d ⊗ c ≡ fin s 0 (pos 0))
+times-zero : (d c : Float) → T (finiteOf d) → eq c zeroF ≡ true → (s : Bool) × (d ⊗ c ≡ fin s 0 (pos 0))
 unfolding mul eq ofBits
 times-zero nan c h k = absurd h
 times-zero (inf s) c h k = absurd h
@@ -59,9 +48,9 @@ times-zero (fin s m e) (fin t n d) h k =
     let a = n * up d * 1 in
     let b = 0 * 1 * down d in
     let none : n * up d ≡ 0 = omega (arith, eqb-true a b (and-both (eqb a b) (Bool·beq t false || eqb a 0) k .0)) in
-    (unlike s t, rounds-none (unlike s t) (m * up e * (n * up d)) (down e * down d) (ap (λ (x : ℕ). m * up e * x) none ∙ mul-zero (m * up e)) (mul-pos (down-pos e) (down-pos d)))
+    (unlike s t, rounds-none binary32 (unlike s t) (m * up e * (n * up d)) (down e * down d) (ap (λ (x : ℕ). m * up e * x) none ∙ mul-zero (m * up e)) (mul-pos (down-pos e) (down-pos d)))
 
--- a value of binary32, rounded again
+-- floats of one value are equal, and so are zeros
 same-sign : (t : Bool) → Bool·beq t t ≡ true
 same-sign true = refl
 same-sign false = refl
@@ -79,24 +68,6 @@ zeros-eq false false e = rw (eq-eqb (0 * 1 * down e) (0 * up e * 1) (omega arith
 zeros-eq true false e = rw (eq-eqb (0 * 1 * down e) (0 * up e * 1) (omega arith), eq-eqb (0 * 1 * down e) 0 (omega arith))
 zeros-eq false true e = rw (eq-eqb (0 * 1 * down e) (0 * up e * 1) (omega arith), eq-eqb (0 * 1 * down e) 0 (omega arith))
 
-module _ (f : Format) (t : Bool) (m : ℕ) (e : ℤ) (F : T (fits f (fin t (suc m) e))) where
-  back-at : (j : ℕ) → suc m * up e * 2 ^ low f ≡ suc m * 2 ^ j * down e → HasValue (round f t (suc m * up e) (down e)) t (suc m * up e) (down e)
-  back-at j h =
-      round-exact f t (suc m * up e) (down e) (suc m) j (down-pos e) (few-digits f t (suc m) e F)
-      (lt-of-mul-lt-mul-right (down e) (lt-of-lt-of-le (lt-of-le-of-lt (le-of-eq (sym h)) (mul-lt-mul-of-pos-right (in-reach f t m e F) (pow-pos (low f)))) (le-of-eq (reach (down e)))))
-      h
-    where
-      reach : (d : ℕ) → 2 ^ suc (emax f) * d * 2 ^ low f ≡ 2 ^ (low f + suc (emax f)) * d
-      reach d = mul-right-comm (2 ^ suc (emax f)) d (2 ^ low f) ∙ ap (λ (x : ℕ). x * d) (sym (pow-add 2 (suc (emax f)) (low f)) ∙ ap (λ (x : ℕ). 2 ^ x) (add-comm (suc (emax f)) (low f)))
-
-pub round-back : (f : Format) (t : Bool) (m : ℕ) (e : ℤ) → T (fits f (fin t (suc m) e)) → HasValue (round f t (suc m * up e) (down e)) t (suc m * up e) (down e)
-round-back f t m (pos k) F =
-    back-at f t m (pos k) F (k + low f) (mul-assoc (suc m) (2 ^ k) (2 ^ low f) ∙ (ap (λ (x : ℕ). suc m * x) (sym (pow-add 2 k (low f))) ∙ sym (mul-one (suc m * 2 ^ (k + low f)))))
-round-back f t m (negsuc k) F =
-    let l : suc k ≤ low f = pow-at-most (suc k) (low f) (fine-grained f t m (negsuc k) F) in
-    let j : low f - suc k + suc k ≡ low f = omega arith in
-    back-at f t m (negsuc k) F (low f - suc k) (ap (λ (x : ℕ). x * 2 ^ low f) (mul-one (suc m)) ∙ (ap (λ (x : ℕ). suc m * 2 ^ x) (sym j) ∙ (ap (λ (x : ℕ). suc m * x) (pow-add 2 (low f - suc k) (suc k)) ∙ sym (mul-assoc (suc m) (2 ^ (low f - suc k)) (2 ^ suc k)))))
-
 -- a sum with nothing
 sum-less : (t s : Bool) (a b c : ℕ) → b ≡ 0 → 0 < a → sum binary32 t a s b c ≡ round binary32 t a c
 unfolding sum
@@ -107,13 +78,13 @@ sum-less false true a b c h k = rw (le-ltb a b (omega arith)) (ap (λ (x : ℕ).
 
 sum-nothing : (t s : Bool) (a b c : ℕ) → a ≡ 0 → b ≡ 0 → 0 < c → (r : Bool) × (sum binary32 t a s b c ≡ fin r 0 (pos 0))
 unfolding sum
-sum-nothing true true a b c h k C = (true, rounds-none true (a + b) c (omega arith) C)
-sum-nothing false false a b c h k C = (false, rounds-none false (a + b) c (omega arith) C)
-sum-nothing true false a b c h k C = (false, rw (le-ltb a b (omega arith), le-ltb b a (omega arith)) (rounds-none false (a - b) c (omega arith) C))
-sum-nothing false true a b c h k C = (false, rw (le-ltb a b (omega arith)) (rounds-none false (a - b) c (omega arith) C))
+sum-nothing true true a b c h k C = (true, rounds-none binary32 true (a + b) c (omega arith) C)
+sum-nothing false false a b c h k C = (false, rounds-none binary32 false (a + b) c (omega arith) C)
+sum-nothing true false a b c h k C = (false, rw (le-ltb a b (omega arith), le-ltb b a (omega arith)) (rounds-none binary32 false (a - b) c (omega arith) C))
+sum-nothing false true a b c h k C = (false, rw (le-ltb a b (omega arith)) (rounds-none binary32 false (a - b) c (omega arith) C))
 
 -- a value of binary32 and a 0
-pub plus-zero : (a : Float) (s : Bool) → T (fits binary32 a) → T (finiteOf a) → eq (a ⊕ fin s 0 (pos 0)) a ≡ true
+plus-zero : (a : Float) (s : Bool) → T (fits binary32 a) → T (finiteOf a) → eq (a ⊕ fin s 0 (pos 0)) a ≡ true
 unfolding add
 plus-zero nan s F h = absurd h
 plus-zero (inf t) s F h = absurd h
@@ -123,7 +94,7 @@ plus-zero (fin t zero e) s F h =
 plus-zero (fin t (suc m) e) s F h =
     let a : 0 < suc m * up e = mul-pos (zero-lt-suc m) (up-pos e) in
     let z = sum-less t s (suc m * up e * 1) (0 * 1 * down e) (down e * 1) (omega arith) (omega arith) in
-    rw (z, mul-one (suc m * up e), mul-one (down e)) (value-eq (round binary32 t (suc m * up e) (down e)) t (suc m) e (round-back binary32 t m e F))
+    rw (z, mul-one (suc m * up e), mul-one (down e)) (value-eq (round binary32 t (suc m * up e) (down e)) t (suc m) e (round-held binary32 t (suc m) e F))
 
 -- a blend by 0
 pub blend-zero : (a b c : Float) → T (fits binary32 a) → T (finiteOf a) → T (finiteOf (b ⊖ a)) → eq c zeroF ≡ true → eq (blendOf a b c) a ≡ true

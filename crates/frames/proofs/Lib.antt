@@ -12,5 +12,5 @@ pub mod Scans
 mod Shifts
 pub mod Tops
 pub mod Walks
-mod Zeros
-mod Zeroth
+mod Times
+mod EasedAtZero

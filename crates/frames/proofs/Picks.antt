@@ -12,16 +12,15 @@ use lib.Seq.{getD-take, length-take-le}
 use lib.Ieee.{Float, lt, le, isNan}
 use lib.Ieee.Bits.{is-true}
 use borrow.Author.Tests.{eqb-true}
-use Rattle.math.specs.Rounded.{zeroF}
+use denote.Floats.{passes as holds}
 use Rattle.math.specs.Range.{maxZeroOf}
 use Rattle.math.proofs.Choice.{by-test}
 use Rattle.math.proofs.Order.{le-numbers, le-self, lt-le, le-chain, lt-of-not-le}
-use Rattle.math.proofs.Upward.{max-zero-up}
 use Rattle.frames.specs.declared.frame.Keyframe.{Keyframe}
 use Rattle.frames.specs.Limits.{framesOf, beforeAll, noFrame}
 use Rattle.frames.specs.Counting.{counted}
 use Rattle.frames.specs.Sampling.{timesOf, passedOf, lastOf, cutOf, betweenOf, pickOf, atOf, sampleOf}
-use Rattle.frames.proofs.Rising.{holds, each-fine, rising, time-fine, time-number}
+use Rattle.frames.proofs.Rising.{each-fine, rising, time-fine, time-number}
 use Rattle.frames.proofs.Walks.{lead-is, lead-below}
 use Rattle.frames.proofs.Counts.{counted-passed, counted-front}
 
@@ -52,11 +51,8 @@ pick-same first last k l m n t h = go (le t (first .time)) (le (last .time) t) h
         let e = h refl refl in
         rw (e .0, e .1)
 
--- the time that is sampled: a number, and at most the last time
-pub max-zero-number : (x : Float) → isNan (maxZeroOf x) ≡ false
-max-zero-number x = le-numbers zeroF (maxZeroOf x) (max-zero-up x) .1
-
-pub cut-most : (x top : Float) → isNan top ≡ false → T (le (cutOf x top) top)
+-- the time that is sampled is at most the last time
+cut-most : (x top : Float) → isNan top ≡ false → T (le (cutOf x top) top)
 cut-most x top n = by-test (λ (z : Float). T (le z top)) (lt x top) x top (λ h. lt-le x top (holds (lt x top) h)) (λ _. le-self top n)
 
 module _ (fs : List Keyframe) (n : ℕ) (some : 1 ≤ n) (fit : n ≤ length fs) (fine : framesOf (take n fs) ≡ true) where
@@ -100,7 +96,7 @@ module _ (fs : List Keyframe) (n : ℕ) (some : 1 ≤ n) (fit : n ≤ length fs)
         let d : i + 1 - 1 ≡ i = omega arith in
         (rw (e, d) (sym (at i (omega (arith, h)))), rw e (sym (at (i + 1) h)))
 
-    pub at-time : (i : ℕ) → Place i → pickOf (getD fs 0 noFrame) (getD fs (n - 1) noFrame) (getD fs i noFrame) (getD fs (i + 1) noFrame) t ≡ atOf (take n fs) t
+    at-time : (i : ℕ) → Place i → pickOf (getD fs 0 noFrame) (getD fs (n - 1) noFrame) (getD fs i noFrame) (getD fs (i + 1) noFrame) t ≡ atOf (take n fs) t
     at-time i p =
         pick-same (getD fs 0 noFrame) (getD fs (n - 1) noFrame) _ _ (getD (take n fs) (passedOf t (take n fs) - 1) noFrame) (getD (take n fs) (passedOf t (take n fs)) noFrame) t (λ a z. same i z (p a z))
         ∙ rw (at 0 some, last-at)

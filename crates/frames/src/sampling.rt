@@ -12,15 +12,11 @@ pub fn cut(x: f32, top: f32) -> f32
     if x < top { x } else { top }
 }
 
-// At least 2^-23, Rust's f32::EPSILON.
+// A span of d seconds, and of 2^-23 where d is less.
 pub fn span_of(d: f32) -> f32
     ensures { λ r. ⌜ r ≡ spanOf d ⌝ }
 {
-    if 0.00000011920929 < d {
-        d
-    } else {
-        0.00000011920929
-    }
+    if math::EPSILON < d { d } else { math::EPSILON }
 }
 
 // 0 where the easing refuses, which no easing of a frame within limits does.

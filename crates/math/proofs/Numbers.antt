@@ -29,7 +29,7 @@ units-number : (f : Format) (s : Bool) (q k : ℕ) → isNan (units f s q k) ≡
 unfolding units
 units-number f s q k = by-test Number (ltb (q * 2 ^ k) (2 ^ (low f + suc (emax f)))) _ _ (λ _. odd-number (suc (prec f)) s q k (low f)) (λ _. inf-number s)
 
-pub round-number : (f : Format) (s : Bool) (a c : ℕ) → isNan (round f s a c) ≡ false
+round-number : (f : Format) (s : Bool) (a c : ℕ) → isNan (round f s a c) ≡ false
 round-number f s a c = ap isNan (round-is f s a c) ∙ units-number f s (kept (prec f) (a * 2 ^ low f) c) (drop (prec f) (a * 2 ^ low f) c)
 
 sum-number : (f : Format) (s : Bool) (a : ℕ) (t : Bool) (b c : ℕ) → isNan (sum f s a t b c) ≡ false

@@ -10,7 +10,7 @@ use lib.IntN.{ℤ}
 use lib.Dec.{T, not-T, leb, ltb, eqb, leb→le, le→leb, ltb→lt, lt→ltb, nltb→le, eqb→eq}
 use lib.Ieee.{Float, nan, inf, fin, up, down, below, level, lt, eq, le, isNan}
 use lib.Ieee.Fits.{down-pos, and-i, and-l, and-r, eq→eqb}
-use lib.Ieee.Bits.{is-false}
+use lib.Ieee.Bits.{is-true, is-false}
 use lib.Ieee.Positive.{through}
 
 -- two tests that imply each other are equal
@@ -92,7 +92,7 @@ le-sizes true false a b = same (ltb 0 (a + b) || (eqb a b && eqb a 0)) true (λ 
     go (inl h) = or-right (ltb 0 (a + b)) (eqb a b && eqb a 0) (and-i (eqb a b) (eqb a 0) (eq→eqb (level h)) (eq→eqb (none h)))
     go (inr h) = or-left (ltb 0 (a + b)) (eqb a b && eqb a 0) (lt→ltb 0 (a + b) h)
 
-pub not-lt-sizes : (s t : Bool) (a b : ℕ) → not (below t b s a) ≡ leq s a t b
+not-lt-sizes : (s t : Bool) (a b : ℕ) → not (below t b s a) ≡ leq s a t b
 not-lt-sizes false false a b = not-ltb a b
 not-lt-sizes true true a b = not-ltb b a
 not-lt-sizes false true a b = not-ltb (b + a) 0 ∙ ap (λ (n : ℕ). leb n 0) (add-comm b a)
@@ -133,6 +133,11 @@ pub not-lt-of-le : (x y : Float) → T (le x y) → lt y x ≡ false
 not-lt-of-le x y h =
     let n = le-numbers x y h in
     is-false (lt y x) (subst T (le-turned x y (n .0) (n .1)) h)
+
+pub not-le-of-lt : (x y : Float) → T (lt x y) → le y x ≡ false
+not-le-of-lt x y h =
+    let n = le-numbers x y (lt-le x y h) in
+    le-turned y x (n .1) (n .0) ∙ ap not (is-true (lt x y) h)
 
 -- what is not below is at least, and what is not at most is above
 pub le-of-not-lt : (x y : Float) → isNan x ≡ false → isNan y ≡ false → lt x y ≡ false → T (le y x)
