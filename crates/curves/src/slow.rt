@@ -2,6 +2,8 @@
 ghost use mathlib.Core.Path.{_≡_};
 ghost use Rattle.curves.specs.Slow.{slowPart, edgeOf, slowAt, slowMo};
 
+// The slow middle goes from `from` to `to` and is lr wide; mid and edge are the slopes in it and
+// beside it.
 fn part(t: f32, lr: f32, from: f32, to: f32, mid: f32, edge: f32) -> f32
     ensures { λ r. ⌜ r ≡ slowPart t lr from to mid edge ⌝ }
 {
@@ -25,6 +27,7 @@ fn edge_of(lr: f32, mid: f32) -> f32
     }
 }
 
+// Between the ends, where lr and p are in range.
 fn slow_at(t: f32, lr: f32, p: f32) -> f32
     ensures { λ r. ⌜ r ≡ slowAt t lr p ⌝ }
 {

@@ -7,7 +7,6 @@ use lib.Dec.{T, leb→le, lit≤}
 use lib.Ieee.{Float, isNan, ofBits}
 use lib.Ieee.Fits.{and-l, and-r}
 use Rattle.math.specs.Whole.{Is}
-use Rattle.math.specs.Rounded.{f32}
 use Rattle.math.specs.Range.{clamp01Of, finiteOf, Within, AtMost}
 use Rattle.math.proofs.Choice.{by-test}
 use Rattle.math.proofs.Numbers.{finite-number}
@@ -26,18 +25,17 @@ use Rattle.refusal.specs.declared.Refusal.the-variants.{ProgressIsNan}
 use Rattle.easing.specs.declared.answers.Eased.{Eased}
 use Rattle.easing.specs.declared.answers.Eased.the-variants.{Value, Refused}
 use Rattle.easing.specs.Kinds.{curveOf}
-use Rattle.easing.specs.Params.{upTo1024, paramsOf, withinOf}
+use Rattle.easing.specs.Params.{limitF, upTo1024, paramsOf, withinOf}
 use Rattle.easing.specs.Apply.{easedAt, applyOf}
 use Rattle.easing.specs.declared.kinds.Easing.{Easing}
 use Rattle.easing.specs.declared.kinds.Easing.the-variants.{Linear, EaseInQuad, EaseOutQuad, EaseInOutQuad, EaseInCubic, EaseOutCubic, EaseInOutCubic, EaseInQuart, EaseOutQuart, EaseInOutQuart, EaseInQuint, EaseOutQuint, EaseInOutQuint, EaseInSine, EaseOutSine, EaseInOutSine, EaseInExpo, EaseOutExpo, EaseInOutExpo, EaseInCirc, EaseOutCirc, EaseInOutCirc, EaseInBack, EaseOutBack, EaseInOutBack, EaseInElastic, EaseOutElastic, EaseInOutElastic, EaseInBounce, EaseOutBounce, EaseInOutBounce, CubicBezier, Steps, RoughEase, SlowMo, Wiggle, CustomBounce, ExpoScale}
 
--- 1,024
-limit-is : Is (f32 0x4480_0000) 1024
+limit-is : Is limitF 1024
 unfolding ofBits
 limit-is = (refl, refl)
 
 up-to-1024 : (x : Float) → T (upTo1024 x) → AtMost 1024 x
-up-to-1024 x h = size-at-most 1024 x (f32 0x4480_0000) limit-is h
+up-to-1024 x h = size-at-most 1024 x limitF limit-is h
 
 abbrev Bounded : Option (Float → Float) → Float → Type 0
 Bounded none u = Unit {0}

@@ -28,12 +28,9 @@ use Rattle.frames.proofs.Counts.{counted-passed, counted-front}
 pub passed-interval : (l : List Keyframe) (t : Float) (i : ℕ) → framesOf l ≡ true → i + 1 < length l → le (getD l i noFrame .time) t ≡ true → le (getD l (i + 1) noFrame .time) t ≡ false → passedOf t l ≡ i + 1
 passed-interval l t i f h a z =
     lead-is (λ (k : Keyframe). le (k .time) t) l (i + 1) (omega arith)
-    (λ j b. ⊎-elim (λ (e : j ≡ i). rw e a) (λ (e : j < i). is-true (le (getD l j noFrame .time) t) (earlier j e)) (below j i b))
+    (λ j b. ⊎-elim (λ (e : j ≡ i). rw e a) (λ (e : j < i). is-true (le (getD l j noFrame .time) t) (earlier j e)) (eq-or-lt-of-le {n = j} {m = i} (omega (arith, b))))
     (λ _. z)
   where
-    below : (j i : ℕ) → j < i + 1 → (j ≡ i) ⊎ (j < i)
-    below j i b = eq-or-lt-of-le (omega (arith, b))
-
     earlier : (j : ℕ) → j < i → T (le (getD l j noFrame .time) t)
     earlier j e =
         le-chain (getD l j noFrame .time) (getD l i noFrame .time) t (lt-le (getD l j noFrame .time) (getD l i noFrame .time) (rising beforeAll l f j i e (omega (arith, h))))

@@ -6,6 +6,7 @@ use easing::Eased;
 use easing::Easing;
 use units::Progress;
 
+// x, and top from there on; top where x is a NaN.
 pub fn cut(x: f32, top: f32) -> f32
     ensures { λ r. ⌜ r ≡ cutOf x top ⌝ }
 {
@@ -36,6 +37,7 @@ pub fn along(from: f32, to: f32, t: f32) -> f32
     math::clamp01((t - from) / span_of(to - from))
 }
 
+// The blend at a t between the times of k and l.
 fn between(k: Keyframe, l: Keyframe, t: f32) -> f32
     ensures { λ r. ⌜ r ≡ betweenOf k l t ⌝ }
 {

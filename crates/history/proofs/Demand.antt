@@ -35,7 +35,7 @@ reached-cut : (m : PassLimit) (F q : ℕ) → Reached m F → F ≤ q → (F ≡
 reached-cut (Passes n) F q o k = (omega arith, sym (le-leb n q (omega arith)))
 reached-cut Endless F q o k = absurd o
 
--- What is kept says what the demand asks, for any A: this too is general.
+-- what is kept says what the demand asks, for any A
 module _ (l : Loop) (D A F : ℕ) (some : 1 ≤ D) where
   abbrev Adds : TweenState → Tween → Type 0
   Adds st t = (F ≡ cutAt (limitOf l) (A / D)) × Is (t .elapsed) (cond (isCompleted st) D (A - D * F)) × (isCompleted st ≡ reaches (limitOf l) (A / D))
