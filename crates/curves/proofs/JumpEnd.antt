@@ -1,16 +1,16 @@
 -- Steps and W3C's jump-end agree exactly where the rounded product t·n is whole. Assumes nothing.
 use mathlib.Core.Path.{_≡_, refl, sym, ap, _∙_, subst⁻¹}
 use mathlib.Core.Bool.{Bool, true, false, cond, true≢false, false≢true}
-use Prim.Native.Nat.{ℕ, zero, suc, _+_, _-_, _*_, _/_, _%_, _^_, _<_, _≤_, max}
-use native.Mathlib.Nat.{mul-pos, zero-lt-suc, one-mul, div-add-mod', le-trans, le-of-eq, lt-of-lt-of-le, le-refl, le-of-mul-le-mul-right, mul-lt-mul-of-pos-right, mul-le-mul-right, mul-comm, mul-assoc, div-mul-le-self, div-lt-iff-lt-mul}
+use Prim.Native.Nat.{ℕ, suc, _+_, _-_, _*_, _/_, _%_, _^_, _<_, _≤_, max}
+use native.Mathlib.Nat.{mul-pos, one-mul, div-add-mod', le-trans, le-of-eq, lt-of-lt-of-le, le-refl, le-of-mul-le-mul-right, mul-lt-mul-of-pos-right, mul-le-mul-right, mul-comm, mul-assoc, div-mul-le-self, div-lt-iff-lt-mul}
 use native.Mathlib.Numerals.{add-one}
 use native.Mathlib.Omega.{arith}
 use lib.Pow.{pow-pos}
-use borrow.Author.Tests.{eqb-true, eqb-false, eq-eqb, ltb-false}
+use borrow.Author.Tests.{eqb-true, eqb-false, ltb-false}
 use lib.IntN.{ℤ, pos}
-use lib.Dec.{T, eqb, eqb·suc-zero, lit≤, lit<}
-use lib.Ieee.{Float, nan, inf, fin, binary32, unlike, up, down, round, lt, le, eq, isNan, mul, div, neg, ofInt, ofBits}
-use lib.Ieee.Fits.{up-pos, down-pos}
+use lib.Dec.{T, eqb, lt→ltb, lit≤, lit<}
+use lib.Ieee.{Float, nan, inf, fin, binary32, unlike, up, down, round, lt, le, eq, isNan, mul, neg, ofInt, ofBits}
+use lib.Ieee.Fits.{down-pos}
 use lib.Ieee.Exact.{HasValue, round-exact}
 use lib.Ieee.Order.{round-mono}
 use lib.Ieee.Scale.{grid, round-val, round-under}
@@ -21,9 +21,10 @@ use Rattle.math.specs.Whole.{ceilOf, Is}
 use Rattle.math.proofs.Ceiling.{up-more, up-same, part-most, ceiling-most}
 use Rattle.math.proofs.Fitting.{rounds-none}
 use Rattle.math.proofs.Order.{times-none, lt-le, eq-self, lt-not-eq, le-numbers, le-of-not-lt, lt-le-chain, le-lt-chain}
-use Rattle.math.proofs.Wholes.{whole-is, div-is}
+use Rattle.math.proofs.Wholes.{whole-is, zero-is, lt-is, div-is}
 use Rattle.math.proofs.Upward.{Up, up-none, round-up}
 use Rattle.math.proofs.Sizes.{is-at-most, at-most-finite, round-at-most, mul-at-most}
+use Rattle.math.proofs.Zeros.{none-equal, unlike-clear, either-zero-over}
 use Rattle.math.proofs.Ranges.{one-held, clamp-stays, at-most-within, within-at-most}
 use Rattle.curves.specs.Stairs.{countOf, stairsOf, stepsOf, floorOf, jumpEndOf, isWhole}
 
@@ -166,13 +167,6 @@ above-zero t n p q l =
 abbrev zero-at : Bool → Float
 zero-at s = fin s 0 (pos 0)
 
-like-itself : (s : Bool) → unlike s false ≡ s
-like-itself true = refl
-like-itself false = refl
-
-zero-rounds : (s : Bool) (a c : ℕ) → a ≡ 0 → 0 < c → round binary32 (unlike s false) a c ≡ zero-at s
-zero-rounds s a c z C = rounds-none binary32 (unlike s false) a c z C ∙ ap zero-at (like-itself s)
-
 zero-floor : (s : Bool) → floorOf (zero-at s) ≡ zero-at s
 unfolding ofInt neg
 zero-floor false = refl
@@ -184,26 +178,10 @@ module _ (s : Bool) (m : ℕ) (e : ℤ) (z : m * up e ≡ 0) where
   zero-product nan n v = absurd v
   zero-product (inf t) n v = absurd v
   zero-product (fin true o d) n v = absurd (true≢false (v .0))
-  zero-product (fin false o d) n v = zero-rounds s (m * up e * (o * up d)) (down e * down d) (times-none (m * up e) (o * up d) z) (mul-pos (down-pos e) (down-pos d))
-
-  zero-equal : eq (fin s m e) zeroF ≡ true
-  unfolding eq ofBits
-  zero-equal = let y : m * up e * 1 ≡ 0 * 1 * down e = omega (arith, z) in let x : m * up e * 1 ≡ 0 = omega (arith, z) in go s (eq-eqb _ _ y) (eq-eqb _ _ x)
-    where
-      go : (s : Bool) → eqb (m * up e * 1) (0 * 1 * down e) ≡ true → eqb (m * up e * 1) 0 ≡ true → eq (fin s m e) zeroF ≡ true
-      go false h k = rw h
-      go true h k = rw (h, k)
+  zero-product (fin false o d) n v = rounds-none binary32 (unlike s false) (m * up e * (o * up d)) (down e * down d) (times-none (m * up e) (o * up d) z) (mul-pos (down-pos e) (down-pos d)) ∙ ap zero-at (unlike-clear s)
 
 zero-quotient : (s : Bool) (c : Float) (n : ℕ) → 0 < n → Is c n → zero-at s ⊘ c ≡ zero-at s
-unfolding div
-zero-quotient s nan n N v = absurd v
-zero-quotient s (inf t) n N v = absurd v
-zero-quotient s (fin true o d) n N v = absurd (true≢false (v .0))
-zero-quotient s (fin false zero d) n N v = absurd (none (n * down d) (up d) (mul-pos N (down-pos d)) (v .1))
-  where
-    none : (a u : ℕ) → 0 < a → 0 * u * 1 ≡ a → ⊥
-    none a u A h = omega arith
-zero-quotient s (fin false (suc o) d) n N v = rw (eqb·suc-zero o) (zero-rounds s (0 * 1 * down d) (suc o * up d * 1) (omega arith) (mul-pos (mul-pos (zero-lt-suc o) (up-pos d)) (lit< tt)))
+zero-quotient s c n N v = either-zero-over s c (at-most-finite n c (is-at-most c n n v (le-refl n))) (subst⁻¹ T (lt-is zeroF c 0 n zero-is v) (lt→ltb 0 n N))
 
 zeros-agree : (s : Bool) → eq zeroF (zero-at s) ≡ isWhole (zero-at s)
 unfolding eq ofBits
@@ -216,7 +194,7 @@ at-zero s m e n z l =
     let c = countOf n in
     let v : Is c N = whole-is binary32 N (omega arith) in
     let p : fin s m e ⊗ c ≡ zero-at s = zero-product s m e z c N v in
-    ap (λ (b : Bool). eq (cond b zeroF (stairsOf (fin s m e) c)) (jumpEndOf (fin s m e) n)) (zero-equal s m e z)
+    ap (λ (b : Bool). eq (cond b zeroF (stairsOf (fin s m e) c)) (jumpEndOf (fin s m e) n)) (none-equal s m e z)
     ∙ ap (λ (y : Float). eq zeroF (floorOf y ⊘ c)) p
     ∙ ap (λ (y : Float). eq zeroF (y ⊘ c)) (zero-floor s)
     ∙ ap (eq zeroF) (zero-quotient s c N (omega arith) v)

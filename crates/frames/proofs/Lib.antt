@@ -1,5 +1,4 @@
 pub mod Answering
-mod Blends
 pub mod Fills
 pub mod Counts
 pub mod Owned

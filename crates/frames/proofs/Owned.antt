@@ -13,18 +13,19 @@ use lib.Ieee.{binary32, fits, lt, le, eq, isNan}
 use lib.Ieee.Bits.{is-true}
 use Rattle.math.specs.Rounded.{_⊖_, _⊘_, zeroF}
 use Rattle.math.specs.Range.{finiteOf, clamp01Of}
-use Rattle.math.proofs.Order.{le-numbers, le-self, le-lt-chain, not-le-of-lt, eq-self}
+use Rattle.math.proofs.Order.{le-self, le-lt-chain, not-le-of-lt, eq-self}
 use Rattle.math.proofs.Numbers.{finite-number}
 use Rattle.math.proofs.Wholes.{power-is}
+use Rattle.math.proofs.Zeros.{sub-self, zero-over}
+use Rattle.math.proofs.Blends.{blend-zero}
 use Rattle.math.proofs.Sizes.{at-most-finite, sub-at-most}
 use Rattle.frames.specs.declared.frame.Keyframe.{Keyframe}
 use Rattle.frames.specs.Limits.{frameOf, framesOf, beforeAll, noFrame}
 use Rattle.frames.specs.Sampling.{passedOf, firstOf, lastOf, spanOf, betweenOf, sampleOf}
-use Rattle.frames.proofs.Rising.{each-fine, rising, time-fine}
+use Rattle.frames.proofs.Rising.{each-fine, rising, time-fine, time-number}
 use Rattle.frames.proofs.Tops.{clock-finite, time-clock}
 use Rattle.frames.proofs.Picks.{passed-interval}
 use Rattle.frames.proofs.Samples.{value-bound, span-finite, span-above, sample-first, sample-last}
-use Rattle.frames.proofs.Blends.{sub-self, zero-over, blend-zero}
 use Rattle.frames.proofs.EasedAtZero.{zero-clamped, eased-zero}
 
 -- the value of a frame is finite, and so is what lies between two
@@ -49,7 +50,7 @@ module _ (l : List Keyframe) (fine : framesOf l ≡ true) (p : ℕ) (here : p < 
   same = eq-self (getD l p noFrame .value) (finite-number (getD l p noFrame .value) (finite-value (getD l p noFrame) (each-fine beforeAll l fine p here)))
 
   real : isNan (getD l p noFrame .time) ≡ false
-  real = le-numbers zeroF (getD l p noFrame .time) (time-clock (getD l p noFrame .time) (time-fine (getD l p noFrame) (each-fine beforeAll l fine p here)) .0) .1
+  real = time-number (getD l p noFrame .time) (time-fine (getD l p noFrame) (each-fine beforeAll l fine p here))
 
   -- between the first frame and the last
   inner : 0 < p → p < length l - 1 → eq (sampleOf l (getD l p noFrame .time)) (getD l p noFrame .value) ≡ true

@@ -28,7 +28,7 @@ use Rattle.easing.proofs.Finite.{apply-bounded}
 use Rattle.frames.specs.declared.frame.Keyframe.{Keyframe}
 use Rattle.frames.specs.Limits.{frameOf, framesOf, beforeAll, noFrame}
 use Rattle.frames.specs.Sampling.{passedOf, firstOf, lastOf, cutOf, spanOf, valueIn, easedOf, alongOf, betweenOf, atOf, sampleOf}
-use Rattle.frames.proofs.Rising.{each-fine, rising, time-fine, value-fine}
+use Rattle.frames.proofs.Rising.{each-fine, rising, time-fine, time-number, value-fine}
 use Rattle.frames.proofs.Tops.{Clock, clock-most, time-clock}
 use Rattle.frames.proofs.Walks.{lead-some, lead-below}
 
@@ -85,10 +85,10 @@ module _ (l : List Keyframe) (fine : framesOf l ≡ true) (some : 0 < length l) 
   last-clock = time-clock (lastOf l .time) (time-fine (lastOf l) (frame-fine (length l - 1) last-place))
 
   number-first : isNan (firstOf l .time) ≡ false
-  number-first = le-numbers zeroF (firstOf l .time) (first-clock .0) .1
+  number-first = time-number (firstOf l .time) (time-fine (firstOf l) (frame-fine 0 some))
 
   number-last : isNan (lastOf l .time) ≡ false
-  number-last = le-numbers zeroF (lastOf l .time) (last-clock .0) .1
+  number-last = time-number (lastOf l .time) (time-fine (lastOf l) (frame-fine (length l - 1) last-place))
 
   -- the frames beside a time between the first and the last
   module _ (t : Float) (real : isNan t ≡ false) (a : le t (firstOf l .time) ≡ false) (z : le (lastOf l .time) t ≡ false) where

@@ -1,40 +1,20 @@
 -- A blend by 0 equals its first value, where that is a value of binary32. Assumes nothing.
 use Prim.Native.Nat.{ℕ, zero, suc, _+_, _-_, _*_, _<_}
-use mathlib.Core.Path.{_≡_, refl, sym, ap, _∙_, subst}
-use mathlib.Core.Bool.{Bool, true, false, _||_, Bool·beq, true≢false}
+use mathlib.Core.Path.{_≡_, refl, sym, ap, _∙_}
+use mathlib.Core.Bool.{Bool, true, false, Bool·beq, true≢false}
 use native.Mathlib.Nat.{mul-zero, mul-one, mul-pos, zero-lt-suc}
 use native.Mathlib.Omega.{arith}
-use borrow.Author.Tests.{eq-eqb, eqb-true, le-ltb, lt-ltb}
+use borrow.Author.Tests.{eq-eqb, le-ltb, lt-ltb}
 use lib.IntN.{ℤ, pos}
-use lib.Dec.{T, eqb, eqb·suc-zero}
-use lib.Ieee.{Float, nan, inf, fin, binary32, up, down, unlike, fits, round, sum, add, sub, mul, div, neg, lt, eq, ofBits}
+use lib.Dec.{T}
+use lib.Ieee.{Float, nan, inf, fin, binary32, up, down, unlike, fits, round, sum, add, mul, eq, ofBits}
 use lib.Ieee.Fits.{down-pos, up-pos}
 use lib.Ieee.Exact.{HasValue}
-use Rattle.math.specs.Rounded.{_⊕_, _⊖_, _⊗_, _⊘_, zeroF}
+use Rattle.math.specs.Rounded.{_⊕_, _⊖_, _⊗_, zeroF}
 use Rattle.math.specs.Range.{finiteOf}
 use Rattle.math.specs.Blend.{blendOf}
-use Rattle.math.proofs.Choice.{and-both}
 use Rattle.math.proofs.Fitting.{rounds-none, round-held}
-
--- x less itself, and 0 over a span above 0
-pub sub-self : (x : Float) → T (finiteOf x) → x ⊖ x ≡ zeroF
-unfolding sub neg add sum ofBits
-sub-self nan h = absurd h
-sub-self (inf s) h = absurd h
-sub-self (fin true m e) h =
-    let a = m * up e * down e in
-    rw (le-ltb a a (omega arith)) (rounds-none binary32 false (a - a) (down e * down e) (omega arith) (mul-pos (down-pos e) (down-pos e)))
-sub-self (fin false m e) h =
-    let a = m * up e * down e in
-    rw (le-ltb a a (omega arith)) (rounds-none binary32 false (a - a) (down e * down e) (omega arith) (mul-pos (down-pos e) (down-pos e)))
-
-pub zero-over : (y : Float) → T (finiteOf y) → T (lt zeroF y) → zeroF ⊘ y ≡ zeroF
-unfolding div lt ofBits
-zero-over nan h k = absurd h
-zero-over (inf s) h k = absurd h
-zero-over (fin true m e) h k = absurd k
-zero-over (fin false zero e) h k = absurd (subst T (le-ltb (0 * 1 * down e) (0 * up e * 1) (omega arith)) k)
-zero-over (fin false (suc m) e) h k = rw (eqb·suc-zero m) (rounds-none binary32 false (0 * 1 * down e) (suc m * up e * 1) (omega arith) (mul-pos (mul-pos (zero-lt-suc m) (up-pos e)) (zero-lt-suc 0)))
+use Rattle.math.proofs.Zeros.{equal-none}
 
 -- a product with 0
 times-zero : (d c : Float) → T (finiteOf d) → eq c zeroF ≡ true → (s : Bool) × (d ⊗ c ≡ fin s 0 (pos 0))
@@ -45,9 +25,7 @@ times-zero (fin s m e) nan h k = absurd (true≢false (sym k))
 times-zero (fin s m e) (inf true) h k = absurd (true≢false (sym k))
 times-zero (fin s m e) (inf false) h k = absurd (true≢false (sym k))
 times-zero (fin s m e) (fin t n d) h k =
-    let a = n * up d * 1 in
-    let b = 0 * 1 * down d in
-    let none : n * up d ≡ 0 = omega (arith, eqb-true a b (and-both (eqb a b) (Bool·beq t false || eqb a 0) k .0)) in
+    let none : n * up d ≡ 0 = equal-none t n d k in
     (unlike s t, rounds-none binary32 (unlike s t) (m * up e * (n * up d)) (down e * down d) (ap (λ (x : ℕ). m * up e * x) none ∙ mul-zero (m * up e)) (mul-pos (down-pos e) (down-pos d)))
 
 -- floats of one value are equal, and so are zeros
