@@ -202,10 +202,10 @@ at-zero s m e n z l =
     ∙ ap isWhole (sym p)
 
 -- what is from 0 up and not above 0 has no size
-no-size : (s : Bool) (m : ℕ) (e : ℤ) → Up (fin s m e) → lt zeroF (fin s m e) ≡ false → m * up e ≡ 0
+not-above-none : (s : Bool) (m : ℕ) (e : ℤ) → Up (fin s m e) → lt zeroF (fin s m e) ≡ false → m * up e ≡ 0
 unfolding lt ofBits
-no-size true m e u h = up-none m e u
-no-size false m e u h = none (m * up e) (down e) (ltb-false (0 * 1 * down e) (m * up e * 1) h)
+not-above-none true m e u h = up-none m e u
+not-above-none false m e u h = none (m * up e) (down e) (ltb-false (0 * 1 * down e) (m * up e * 1) h)
   where
     none : (a d : ℕ) → a * 1 ≤ 0 * 1 * d → a ≡ 0
     none a d h = omega arith
@@ -216,7 +216,7 @@ steps-jump-end t n w l = go (lt zeroF t) refl
     finite : (t : Float) → AtMost 1 t → Up t → lt zeroF t ≡ false → eq (stepsOf t n) (jumpEndOf t n) ≡ isWhole (t ⊗ countOf n)
     finite nan h u k = absurd h
     finite (inf s) h u k = absurd h
-    finite (fin s m e) h u k = at-zero s m e n (no-size s m e u k) l
+    finite (fin s m e) h u k = at-zero s m e n (not-above-none s m e u k) l
 
     go : (b : Bool) → lt zeroF t ≡ b → eq (stepsOf t n) (jumpEndOf t n) ≡ isWhole (t ⊗ countOf n)
     go true p = above-zero t n p (w .1) l

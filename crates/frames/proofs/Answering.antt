@@ -12,7 +12,7 @@ use Rattle.frames.specs.declared.frame.Keyframe.{Keyframe}
 use Rattle.frames.specs.Limits.{frameOf}
 use Rattle.frames.specs.Sampling.{alongOf, easedOf}
 use Rattle.frames.proofs.Rising.{time-fine, easing-fine}
-use Rattle.frames.proofs.Tops.{Clock, time-clock}
+use Rattle.frames.proofs.Clocks.{Clock, time-clock}
 use Rattle.frames.proofs.Samples.{local-within}
 use Rattle.easing.proofs.Answering.{fits-answers}
 

@@ -1,6 +1,8 @@
 pub mod Answering
-pub mod Fills
+pub mod Clocks
 pub mod Counts
+mod EasedAtZero
+pub mod Fills
 pub mod Owned
 pub mod Picks
 mod Places
@@ -9,7 +11,5 @@ pub mod Rising
 pub mod Samples
 pub mod Scans
 mod Shifts
-pub mod Tops
-pub mod Walks
 mod Times
-mod EasedAtZero
+pub mod Walks

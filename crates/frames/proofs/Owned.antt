@@ -23,7 +23,7 @@ use Rattle.frames.specs.declared.frame.Keyframe.{Keyframe}
 use Rattle.frames.specs.Limits.{frameOf, framesOf, beforeAll, noFrame}
 use Rattle.frames.specs.Sampling.{passedOf, firstOf, lastOf, spanOf, betweenOf, sampleOf}
 use Rattle.frames.proofs.Rising.{each-fine, rising, time-fine, time-number}
-use Rattle.frames.proofs.Tops.{clock-finite, time-clock}
+use Rattle.frames.proofs.Clocks.{clock-finite, time-clock}
 use Rattle.frames.proofs.Picks.{passed-interval}
 use Rattle.frames.proofs.Samples.{value-bound, span-finite, span-above, sample-first, sample-last}
 use Rattle.frames.proofs.EasedAtZero.{zero-clamped, eased-zero}

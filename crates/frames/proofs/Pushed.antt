@@ -12,9 +12,8 @@ use lib.Ieee.Bits.{is-true}
 use denote.Floats.{passes as holds}
 use Rattle.math.specs.Rounded.{zeroF}
 use Rattle.math.proofs.Choice.{by-test}
-use Rattle.math.proofs.Equals.{equal-le}
 use Rattle.math.proofs.Upward.{Up}
-use Rattle.math.proofs.Order.{lt-le, le-of-not-lt, not-lt-of-le, le-lt-chain}
+use Rattle.math.proofs.Order.{lt-le, equal-le, le-of-not-lt, not-lt-of-le, le-lt-chain}
 use Rattle.frames.specs.declared.frame.Keyframe.{Keyframe}
 use Rattle.frames.specs.Limits.{frameOf, framesAfter, framesOf, beforeAll, noFrame}
 use Rattle.frames.specs.Sampling.{lastOf, durationOf}

@@ -29,7 +29,7 @@ use Rattle.frames.specs.declared.frame.Keyframe.{Keyframe}
 use Rattle.frames.specs.Limits.{frameOf, framesOf, beforeAll, noFrame}
 use Rattle.frames.specs.Sampling.{passedOf, firstOf, lastOf, cutOf, spanOf, valueIn, easedOf, alongOf, betweenOf, atOf, sampleOf}
 use Rattle.frames.proofs.Rising.{each-fine, rising, time-fine, time-number, value-fine}
-use Rattle.frames.proofs.Tops.{Clock, clock-most, time-clock}
+use Rattle.frames.proofs.Clocks.{Clock, clock-most, time-clock}
 use Rattle.frames.proofs.Walks.{lead-some, lead-below}
 
 epsilon-finite : T (finiteOf epsilonF)

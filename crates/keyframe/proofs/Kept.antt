@@ -35,7 +35,7 @@ use Rattle.frames.specs.Sampling.{durationOf, lastOf}
 use Rattle.frames.specs.Pushing.{pushedOf, putOf}
 use Rattle.frames.proofs.Pushed.{pushed-fine, pushed-last}
 use Rattle.frames.proofs.Rising.{each-fine, time-fine}
-use Rattle.frames.proofs.Tops.{Clock, clock-finite, clock-test, test-clock, time-clock, shrunk-clock}
+use Rattle.frames.proofs.Clocks.{Clock, clock-finite, clock-test, test-clock, time-clock, shrunk-clock}
 use Rattle.keyframe.specs.declared.types.Track.{Track}
 use Rattle.keyframe.specs.declared.types.Changed.{Changed}
 use Rattle.keyframe.specs.declared.types.Updated.{Updated}

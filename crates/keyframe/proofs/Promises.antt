@@ -11,8 +11,7 @@ use lib.Ieee.{Float, binary32, fits, lt, le, eq, ofBits}
 use Rattle.math.specs.Rounded.{_⊕_, zeroF, topF}
 use Rattle.math.specs.Range.{finiteOf, maxZeroOf}
 use Rattle.math.proofs.Choice.{by-test}
-use Rattle.math.proofs.Equals.{equal-le}
-use Rattle.math.proofs.Order.{not-lt-of-le}
+use Rattle.math.proofs.Order.{equal-le, not-lt-of-le}
 use Rattle.refusal.specs.declared.Refusal.{Refusal}
 use Rattle.refusal.specs.declared.Refusal.the-variants.{EasingNotSupplied, EasingParameter, RecordBreaksLimit, StepTooLong, StepLost, ElapsedTooLong, TrackLimit, TrackFull}
 use Rattle.easing.specs.declared.kinds.Easing.{Easing}

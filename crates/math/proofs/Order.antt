@@ -28,7 +28,7 @@ or-left : (a b : Bool) → T a → T (a || b)
 or-left true b h = tt
 or-left false b h = absurd h
 
-pub or-right : (a b : Bool) → T b → T (a || b)
+or-right : (a b : Bool) → T b → T (a || b)
 or-right true b h = tt
 or-right false b h = h
 
@@ -129,6 +129,10 @@ pub lt-le : (x y : Float) → T (lt x y) → T (le x y)
 unfolding le
 lt-le x y h = or-left (lt x y) (eq x y) h
 
+pub equal-le : (x y : Float) → T (eq x y) → T (le x y)
+unfolding le
+equal-le x y h = or-right (lt x y) (eq x y) h
+
 pub not-lt-of-le : (x y : Float) → T (le x y) → lt y x ≡ false
 not-lt-of-le x y h =
     let n = le-numbers x y h in
@@ -167,12 +171,11 @@ eq-self (fin true m e) p = simp (eq-eqb (m * up e * down e) (m * up e * down e) 
 eq-self (fin false m e) p = simp (eq-eqb (m * up e * down e) (m * up e * down e) refl)
 
 pub lt-not-eq : (x y : Float) → T (lt x y) → eq y x ≡ false
-unfolding le
 lt-not-eq x y h = go (eq y x) refl
   where
     go : (b : Bool) → eq y x ≡ b → b ≡ false
     go false e = refl
-    go true e = absurd (subst T (not-lt-of-le y x (or-right (lt y x) (eq y x) (subst⁻¹ T e tt))) h)
+    go true e = absurd (subst T (not-lt-of-le y x (equal-le y x (subst⁻¹ T e tt))) h)
 
 -- chains. The fractions are a / p, b / q and c / r
 no-factor : (a r : ℕ) → 0 < r → a * r ≤ 0 → a ≡ 0

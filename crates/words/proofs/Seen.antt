@@ -23,7 +23,7 @@ use Rattle.frames.specs.Limits.{timeOf, frameOf, framesAfter, framesOf, beforeA
 use Rattle.frames.specs.Sampling.{cutOf, betweenOf, pickOf, sampleOf}
 use Rattle.frames.proofs.Rising.{time-top}
 use Rattle.frames.proofs.Scans.{Scanned, scan-none, scan-inside, scan-picked}
-use Rattle.frames.proofs.Tops.{time-clock, later-time}
+use Rattle.frames.proofs.Clocks.{time-clock, later-time}
 use Rattle.keyframe.specs.Limits.{clockFits, withinOf}
 use Rattle.keyframe.specs.Sampling.{valueAtOf}
 use Rattle.keyframe.proofs.Records.{after-step, after-end, last-time, clocked}
