@@ -20,7 +20,7 @@ use Rattle.curves.specs.Stairs.{stepsOf}
 use Rattle.bezier.specs.Bezier.{cubicBezier}
 use Rattle.curves.proofs.Bounds.{in-power, out-power, in-out-power, in-back, out-back, in-out-back, in-bounce, out-bounce, in-out-bounce, custom-bounce-most, slow-mo-most, steps-within}
 use Rattle.curves.proofs.Circles.{circ-at-most}
-use Rattle.bezier.proofs.Answers.{answer-limited}
+use Rattle.bezier.proofs.Answers.{answer-at-most}
 use Rattle.refusal.specs.declared.Refusal.the-variants.{ProgressIsNan}
 use Rattle.easing.specs.declared.answers.Eased.{Eased}
 use Rattle.easing.specs.declared.answers.Eased.the-variants.{Value, Refused}
@@ -78,7 +78,7 @@ module _ (u : Float) (w : Within u) where
   bounded EaseInBounce h = more 290 (inBounce u) (lit≤ tt) (in-bounce u w)
   bounded EaseOutBounce h = more 289 (outBounce u) (lit≤ tt) (out-bounce u w)
   bounded EaseInOutBounce h = more 290 (inOutBounce u) (lit≤ tt) (in-out-bounce u w)
-  bounded (CubicBezier x1 y1 x2 y2) h = more 24577 (cubicBezier u x1 y1 x2 y2) (lit≤ tt) (answer-limited u x1 y1 x2 y2 w (search (and-l, and-r)) (search (and-l, and-r)) (up-to-1024 y1 (search (and-l, and-r))) (up-to-1024 y2 (search (and-l, and-r))))
+  bounded (CubicBezier x1 y1 x2 y2) h = more 24577 (cubicBezier u x1 y1 x2 y2) (lit≤ tt) (answer-at-most 1024 (lit≤ tt) u x1 y1 x2 y2 w (search (and-l, and-r)) (search (and-l, and-r)) (up-to-1024 y1 (search (and-l, and-r))) (up-to-1024 y2 (search (and-l, and-r))))
   bounded (Steps n) h = more 1 (stepsOf u n) (lit≤ tt) (within-at-most (stepsOf u n) (steps-within u n w (leb→le n 65536 (search (and-l, and-r)))))
   bounded (RoughEase strength points) h = tt
   bounded (SlowMo ratio power) h = slow-mo-most u ratio power w (finite-number ratio (search (and-l, and-r))) (up-to-1024 power (search (and-l, and-r)))

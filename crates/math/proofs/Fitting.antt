@@ -18,7 +18,7 @@ unfolding fits
 few-digits f s zero e t = pow-pos (prec f)
 few-digits f s (suc m) e t = ltb→lt (suc m) (2 ^ prec f) (search (and-l, and-r))
 
-pub in-reach : (f : Format) (s : Bool) (m : ℕ) (e : ℤ) → T (fits f (fin s (suc m) e)) → suc m * up e < 2 ^ suc (emax f) * down e
+in-reach : (f : Format) (s : Bool) (m : ℕ) (e : ℤ) → T (fits f (fin s (suc m) e)) → suc m * up e < 2 ^ suc (emax f) * down e
 unfolding fits
 in-reach f s m e t = ltb→lt (suc m * up e) (2 ^ suc (emax f) * down e) (search (and-l, and-r))
 

@@ -60,7 +60,7 @@ at-most-within (fin false m e) u h = (u, subst⁻¹ T (fraction-le oneF 1 m e on
 at-most-within (fin true m e) u h = (u, subst⁻¹ T (le-sizes true false (m * up e * 1) (1 * 1 * down e)) tt)
 
 -- 1 - y * y, which is what a square root is taken of
-pub square : (y : Float) → AtMost 1 y → Within (y ⊗ y)
+square : (y : Float) → AtMost 1 y → Within (y ⊗ y)
 square y h = at-most-within (y ⊗ y) (square-up binary32 y (at-most-finite 1 y h)) (mul-at-most binary32 1 one-held 1 1 y y (lit≤ tt) h h)
 
 pub rest : (z : Float) → Within z → Within (oneF ⊖ z)

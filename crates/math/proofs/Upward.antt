@@ -46,7 +46,7 @@ round-none : (f : Format) (a c : ℕ) → a ≡ 0 → 0 < c → Up (round f true
 round-none f a c h C = subst⁻¹ Up (rounds-none f true a c h C) minus-zero-up
 
 -- sums
-pub sum-up : (f : Format) (s : Bool) (a : ℕ) (t : Bool) (b c : ℕ) → 0 < c → T (leq (not t) b s a) → Up (sum f s a t b c)
+sum-up : (f : Format) (s : Bool) (a : ℕ) (t : Bool) (b c : ℕ) → 0 < c → T (leq (not t) b s a) → Up (sum f s a t b c)
 unfolding sum
 sum-up f false a false b c C h = round-up f (a + b) c C
 sum-up f true a true b c C h = round-none f (a + b) c (none (leb→le (b + a) 0 h)) C
