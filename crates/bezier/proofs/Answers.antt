@@ -1,11 +1,9 @@
--- How large an answer can be, for a t from 0 to 1, finite x1 and x2, and y1 and y2 at most p in size; and the answers at 0 and 1. Assumes nothing.
+-- How large an answer can be, for a t from 0 to 1, finite x1 and x2, and y1 and y2 at most p in size. Assumes nothing.
 use Prim.Native.Nat.{ℕ, _+_, _*_, _≤_}
-use mathlib.Core.Path.{_≡_, refl}
 use mathlib.Core.Bool.{Bool, true, false, cond}
 use native.Mathlib.Omega.{arith}
-use lib.Dec.{T, lit≤}
-use lib.Ieee.{Float, eq, ofBits}
-use Rattle.math.specs.Rounded.{zeroF, oneF}
+use lib.Dec.{T}
+use lib.Ieee.{Float}
 use Rattle.math.specs.Range.{finiteOf, Within, AtMost}
 use Rattle.math.proofs.Sizes.{at-most-more}
 use Rattle.math.proofs.Ranges.{within-at-most}
@@ -24,12 +22,3 @@ answer-at-most p room t x1 y1 x2 y2 w f1 f2 h1 h2 = go (atEnd t)
     go : (b : Bool) → AtMost (1 + 24 * p) (cond b t (sampleCubicOf y1 y2 u))
     go true = at-most-more 1 (1 + 24 * p) t (omega arith) (within-at-most t w)
     go false = sample-at-most p room y1 y2 u h1 h2 (within-at-most u (found-within t x1 x2 w f1 f2))
-
--- at the limit of y1 and y2
-pub answer-limited : (t x1 y1 x2 y2 : Float) → Within t → T (finiteOf x1) → T (finiteOf x2) → AtMost 1024 y1 → AtMost 1024 y2 → AtMost 24577 (cubicBezier t x1 y1 x2 y2)
-answer-limited = answer-at-most 1024 (lit≤ tt)
-
--- whatever the parameters are
-pub ends : (x1 y1 x2 y2 : Float) → (cubicBezier zeroF x1 y1 x2 y2 ≡ zeroF) × (cubicBezier oneF x1 y1 x2 y2 ≡ oneF)
-unfolding cubicBezier eq ofBits
-ends x1 y1 x2 y2 = (refl, refl)

@@ -13,7 +13,7 @@ use Rattle.math.proofs.Bounded.{plus, less, zero-within, half-within, one-withi
 use Rattle.math.proofs.Numbers.{finite-number, sub-number, div-number, not-zero}
 use Rattle.math.proofs.Upward.{add-up, mul-up}
 use Rattle.math.proofs.Sizes.{at-most-finite, round-at-most}
-use Rattle.math.proofs.Ranges.{clamped, one-held, within-at-most, at-most-within}
+use Rattle.math.proofs.Ranges.{clamped, one-held, within-at-most, within-finite, at-most-within}
 use Rattle.bezier.specs.Curve.{sampleCubicOf, sampleCubicDerivativeOf}
 use Rattle.bezier.specs.Search.{foundAt, tinyF, middleOf, cutOf, nearOf, turnOf, bisectOf, bisectionOf, newtonOf, solveOf}
 use Rattle.bezier.specs.Bezier.{atEnd, foundOf}
@@ -21,9 +21,6 @@ use Rattle.bezier.specs.declared.types.Turn.{Turn}
 use Rattle.bezier.specs.declared.types.Turn.the-variants.{Near, Flat, Next}
 use Rattle.bezier.specs.declared.types.Span.{Span}
 use Rattle.bezier.proofs.Bounds.{sample-at-most, derivative-at-most}
-
-within-finite : (x : Float) → Within x → T (finiteOf x)
-within-finite x w = at-most-finite 1 x (within-at-most x w)
 
 -- the middle of two floats from 0 to 1
 halved : (x : Float) → AtMost 2 x → AtMost 1 (x ⊗ halfF)

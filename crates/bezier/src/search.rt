@@ -12,6 +12,7 @@ const TOLERANCE: f32 = 0.000001;
 // The curve is too flat below this size of its derivative.
 const FLAT: f32 = 0.000001;
 
+// One Newton step from u.
 fn newton_turn(x1: f32, x2: f32, t: f32, u: f32) -> Turn
     ensures { λ r. ⌜ r ≡ turnOf x1 x2 t u ⌝ }
 {
@@ -48,6 +49,7 @@ fn cut(s: Span, x: f32, t: f32) -> Span
     }
 }
 
+// Up to 10 bisections. The u of the last is taken unseen: its x is not worked out.
 fn bisect(x1: f32, x2: f32, t: f32, start: Span) -> f32
     ensures { λ r. ⌜ r ≡ (bisectOf x1 x2 t 10 (nearOf x1 x2 t (start .u)) start) .u ⌝ }
 {

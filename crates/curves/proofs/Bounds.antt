@@ -7,20 +7,20 @@ use borrow.Author.Tests.{ltb-true}
 use lib.IntN.{pos}
 use lib.Dec.{lit≤}
 use lib.Ieee.{Float, nan, inf, fin, binary32, up, down, lt, le, eq, neg, isNan, ofInt, ofBits}
-use Rattle.math.specs.Rounded.{_⊕_, _⊖_, _⊗_, _⊘_, f32, zeroF, halfF, oneF, twoF}
+use Rattle.math.specs.Rounded.{_⊕_, _⊖_, _⊗_, _⊘_, f32, zeroF, halfF, oneF, twoF, epsilonF}
 use Rattle.math.specs.Range.{clamp01Of, maxZeroOf, Within, AtMost}
 use Rattle.math.specs.Whole.{ceilOf, Is}
 use Rattle.math.proofs.Ceiling.{ceil-at-most}
-use Rattle.math.proofs.Bounded.{plus, less, times, over, shrunk, zero-most, half-most, one-most, two-most, two-least, zero-within, held-25, held-26, held-27}
+use Rattle.math.proofs.Bounded.{plus, less, times, over, shrunk, zero-most, half-most, one-most, two-most, two-least, zero-within}
 use Rattle.math.proofs.Choice.{by-test}
-use Rattle.math.proofs.Wholes.{whole-is}
+use Rattle.math.proofs.Wholes.{whole-is, power-is}
 use Rattle.math.proofs.Upward.{Up, mul-up, max-zero-up}
 use Rattle.math.proofs.Sizes.{AtLeast, is-at-most, is-at-least, at-most-number, at-most-more, at-most-finite, add-at-most, mul-at-most, one-more}
 use Rattle.math.proofs.Ranges.{within-at-most, rest, less-one, turned, clamped}
 use Rattle.curves.specs.Powers.{Power, quad, cubic, quart, quint, powi, timesT, leadOf, inPower, outPower, inOutPower}
 use Rattle.curves.specs.Back.{backC1, backC2, backC3, inBack, outBack, inOutBack}
 use Rattle.curves.specs.Bounce.{bounceN1, bounceD1, arcOf, outBounce, inBounce, inOutBounce, customBounce}
-use Rattle.curves.specs.Slow.{epsilon, slowPart, edgeOf, midOf, fromOf, slowAt, slowMo}
+use Rattle.curves.specs.Slow.{slowPart, edgeOf, midOf, fromOf, slowAt, slowMo}
 use Rattle.curves.specs.Stairs.{stepsOf}
 
 -- powers
@@ -181,7 +181,7 @@ module _ (t : Float) (w : Within t) where
 
 -- SlowMo
 -- above 2 ^ -23
-edge-least : (x : Float) (n : ℕ) → AtMost n x → lt epsilon x ≡ true → AtLeast 8388608 x
+edge-least : (x : Float) (n : ℕ) → AtMost n x → lt epsilonF x ≡ true → AtLeast 8388608 x
 unfolding lt ofBits
 edge-least nan n h k = absurd h
 edge-least (inf s) n h k = absurd h
@@ -195,12 +195,12 @@ edge-least (fin false m e) n h k = reach (m * up e) (down e) (ltb-true (1 * down
 part-most : (t lr from to mid edge : Float) → AtMost 1 t → AtMost 1 lr → AtMost 1 from → AtMost 2 to → AtMost 1 mid → AtMost 16777216 edge → AtMost 134217728 (slowPart t lr from to mid edge)
 part-most t lr from to mid edge a b c d e g =
     let ramp : AtMost 16777216 (from ⊗ edge) = times 16777216 (lit≤ tt) 1 16777216 from edge (lit≤ tt) c g in
-    by-test (AtMost 134217728) (lt t from) _ _ (λ _. mul-at-most binary32 134217728 held-27 1 16777216 t edge (lit≤ tt) a g)
+    by-test (AtMost 134217728) (lt t from) _ _ (λ _. mul-at-most binary32 134217728 (power-is binary32 27 (lit≤ tt)) 1 16777216 t edge (lit≤ tt) a g)
     (λ _. by-test (AtMost 134217728) (lt to t) _ _
-    (λ _. add-at-most binary32 134217728 held-27 33554432 67108864 (from ⊗ edge ⊕ lr ⊗ mid) ((t ⊖ to) ⊗ edge) (lit≤ tt)
-    (add-at-most binary32 33554432 held-25 16777216 1 (from ⊗ edge) (lr ⊗ mid) (lit≤ tt) ramp (shrunk 1 (lit≤ tt) lr mid b e))
-    (mul-at-most binary32 67108864 held-26 3 16777216 (t ⊖ to) edge (lit≤ tt) (less 3 (lit≤ tt) 1 2 t to (lit≤ tt) a d) g))
-    (λ _. add-at-most binary32 134217728 held-27 16777216 2 (from ⊗ edge) ((t ⊖ from) ⊗ mid) (lit≤ tt) ramp
+    (λ _. add-at-most binary32 134217728 (power-is binary32 27 (lit≤ tt)) 33554432 67108864 (from ⊗ edge ⊕ lr ⊗ mid) ((t ⊖ to) ⊗ edge) (lit≤ tt)
+    (add-at-most binary32 33554432 (power-is binary32 25 (lit≤ tt)) 16777216 1 (from ⊗ edge) (lr ⊗ mid) (lit≤ tt) ramp (shrunk 1 (lit≤ tt) lr mid b e))
+    (mul-at-most binary32 67108864 (power-is binary32 26 (lit≤ tt)) 3 16777216 (t ⊖ to) edge (lit≤ tt) (less 3 (lit≤ tt) 1 2 t to (lit≤ tt) a d) g))
+    (λ _. add-at-most binary32 134217728 (power-is binary32 27 (lit≤ tt)) 16777216 2 (from ⊗ edge) ((t ⊖ from) ⊗ mid) (lit≤ tt) ramp
     (shrunk 2 (lit≤ tt) (t ⊖ from) mid (less 2 (lit≤ tt) 1 1 t from (lit≤ tt) a c) e)))
 
 module _ (lr p : Float) (w : Within lr) (u : Up p) (h : AtMost 1024 p) where
@@ -220,7 +220,7 @@ module _ (lr p : Float) (w : Within lr) (u : Up p) (h : AtMost 1024 p) where
 
   edge-most : AtMost 16777216 (edgeOf lr (midOf lr p))
   edge-most =
-      by-test (AtMost 16777216) (lt epsilon (oneF ⊖ lr)) _ _
+      by-test (AtMost 16777216) (lt epsilonF (oneF ⊖ lr)) _ _
       (λ k. over 16777216 (lit≤ tt) 2 8388608 (oneF ⊖ midOf lr p ⊗ lr) (oneF ⊖ lr) (lit≤ tt)
       (less 2 (lit≤ tt) 1 1 oneF (midOf lr p ⊗ lr) (lit≤ tt) one-most (shrunk 1 (lit≤ tt) (midOf lr p) lr mid-most a)) (edge-least (oneF ⊖ lr) 1 b k))
       (λ k. at-most-more 1 16777216 oneF (lit≤ tt) one-most)

@@ -9,11 +9,11 @@ use Rattle.math.specs.Rounded.{_⊕_, _⊖_, _⊗_, _⊘_, halfF, oneF, twoF}
 use Rattle.math.specs.Range.{Within, AtMost}
 use Rattle.math.proofs.Bounded.{plus, over, one-most, two-least}
 use Rattle.math.proofs.Ranges.{within-at-most, rest, under-root, less-one, doubled, turned}
-use Rattle.curves.specs.Circ.{arcOf, inCirc, outCirc, inOutCirc}
+use Rattle.curves.specs.Circ.{circleOf, inCirc, outCirc, inOutCirc}
 use Rattle.curves.proofs.Roots.{sqrt-within}
 
-arc-within : (y : Float) → AtMost 1 y → Within (arcOf y)
-arc-within y h = sqrt-within (oneF ⊖ y ⊗ y) (sub-fits binary32 oneF (y ⊗ y)) (under-root y h)
+circle-within : (y : Float) → AtMost 1 y → Within (circleOf y)
+circle-within y h = sqrt-within (oneF ⊖ y ⊗ y) (sub-fits binary32 oneF (y ⊗ y)) (under-root y h)
 
 halved : (p : ℕ) (x : Float) → p * 1 ≤ 2 → AtMost p x → AtMost 2 (x ⊘ twoF)
 halved p x l h = over 2 (lit≤ tt) p 1 x twoF l h two-least
@@ -21,13 +21,13 @@ halved p x l h = over 2 (lit≤ tt) p 1 x twoF l h two-least
 pub circ-at-most : (t : Float) → Within t → AtMost 1 (inCirc t) × AtMost 1 (outCirc t) × AtMost 2 (inOutCirc t)
 unfolding inCirc outCirc inOutCirc
 circ-at-most t w = (
-  within-at-most (oneF ⊖ arcOf t) (rest (arcOf t) (arc-within t (within-at-most t w))),
-  within-at-most (arcOf (t ⊖ oneF)) (arc-within (t ⊖ oneF) (less-one t w)),
+  within-at-most (oneF ⊖ circleOf t) (rest (circleOf t) (circle-within t (within-at-most t w))),
+  within-at-most (circleOf (t ⊖ oneF)) (circle-within (t ⊖ oneF) (less-one t w)),
   go (lt t halfF) refl,
 )
   where
-    go : (b : Bool) → lt t halfF ≡ b → AtMost 2 (cond b ((oneF ⊖ arcOf (twoF ⊗ t)) ⊘ twoF) ((arcOf (neg twoF ⊗ t ⊕ twoF) ⊕ oneF) ⊘ twoF))
-    go true h = halved 1 (oneF ⊖ arcOf (twoF ⊗ t)) (lit≤ tt) (within-at-most (oneF ⊖ arcOf (twoF ⊗ t)) (rest (arcOf (twoF ⊗ t)) (arc-within (twoF ⊗ t) (doubled t w h))))
+    go : (b : Bool) → lt t halfF ≡ b → AtMost 2 (cond b ((oneF ⊖ circleOf (twoF ⊗ t)) ⊘ twoF) ((circleOf (neg twoF ⊗ t ⊕ twoF) ⊕ oneF) ⊘ twoF))
+    go true h = halved 1 (oneF ⊖ circleOf (twoF ⊗ t)) (lit≤ tt) (within-at-most (oneF ⊖ circleOf (twoF ⊗ t)) (rest (circleOf (twoF ⊗ t)) (circle-within (twoF ⊗ t) (doubled t w h))))
     go false h =
         let y = neg twoF ⊗ t ⊕ twoF in
-        halved 2 (arcOf y ⊕ oneF) (lit≤ tt) (plus 2 (lit≤ tt) 1 1 (arcOf y) oneF (lit≤ tt) (within-at-most (arcOf y) (arc-within y (turned t w h))) one-most)
+        halved 2 (circleOf y ⊕ oneF) (lit≤ tt) (plus 2 (lit≤ tt) 1 1 (circleOf y) oneF (lit≤ tt) (within-at-most (circleOf y) (circle-within y (turned t w h))) one-most)

@@ -6,7 +6,6 @@ use Rattle.math.specs.Rounded.{_⊕_, _⊗_, f32, oneF}
 use Rattle.curves.specs.Powers.{quad, cubic, quart, quint, leadOf}
 use Rattle.curves.specs.Back.{backC1, backC2, backC3}
 use Rattle.curves.specs.Bounce.{bounceN1, bounceD1}
-use Rattle.curves.specs.Slow.{epsilon}
 
 pub constants : (leadOf quad ≡ round binary32 false 2 1)
     × (leadOf cubic ≡ round binary32 false 4 1)
@@ -24,6 +23,5 @@ pub constants : (leadOf quad ≡ round binary32 false 2 1)
     × (f32 0x3f40_0000 ≡ round binary32 false 75 100)
     × (f32 0x3f70_0000 ≡ round binary32 false 9375 10000)
     × (f32 0x3f7c_0000 ≡ round binary32 false 984375 1000000)
-    × (epsilon ≡ round binary32 false 1 8388608)
 unfolding round add mul ofBits
-constants = (refl, refl, refl, refl, refl, refl, refl, refl, refl, refl, refl, refl, refl, refl, refl, refl, refl)
+constants = (refl, refl, refl, refl, refl, refl, refl, refl, refl, refl, refl, refl, refl, refl, refl, refl)

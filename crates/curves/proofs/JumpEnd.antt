@@ -1,28 +1,30 @@
 -- Steps and W3C's jump-end agree exactly where the rounded product t·n is whole. Assumes nothing.
 use mathlib.Core.Path.{_≡_, refl, sym, ap, _∙_, subst⁻¹}
 use mathlib.Core.Bool.{Bool, true, false, cond, true≢false, false≢true}
-use Prim.Native.Nat.{ℕ, zero, suc, _+_, _-_, _*_, _/_, _%_, _^_, _<_, _≤_, max}
-use native.Mathlib.Nat.{mul-pos, zero-lt-suc, one-mul, div-add-mod', le-trans, le-of-eq, lt-of-lt-of-le, le-refl, le-of-mul-le-mul-right, mul-lt-mul-of-pos-right, mul-le-mul-right, mul-comm, mul-assoc, div-mul-le-self, div-lt-iff-lt-mul}
+use Prim.Native.Nat.{ℕ, suc, _+_, _-_, _*_, _/_, _%_, _^_, _<_, _≤_, max}
+use native.Mathlib.Nat.{mul-pos, one-mul, div-add-mod', le-trans, le-of-eq, lt-of-lt-of-le, le-refl, le-of-mul-le-mul-right, mul-lt-mul-of-pos-right, mul-le-mul-right, mul-comm, mul-assoc, div-mul-le-self, div-lt-iff-lt-mul}
 use native.Mathlib.Numerals.{add-one}
 use native.Mathlib.Omega.{arith}
 use lib.Pow.{pow-pos}
-use borrow.Author.Tests.{eqb-true, eqb-false, eq-eqb, ltb-false}
+use borrow.Author.Tests.{eqb-true, eqb-false, ltb-false}
 use lib.IntN.{ℤ, pos}
-use lib.Dec.{T, eqb, eqb·suc-zero, lit≤, lit<}
-use lib.Ieee.{Float, nan, inf, fin, binary32, unlike, up, down, round, lt, le, eq, isNan, mul, div, neg, ofInt, ofBits}
-use lib.Ieee.Fits.{up-pos, down-pos}
+use lib.Dec.{T, eqb, lt→ltb, lit≤, lit<}
+use lib.Ieee.{Float, nan, inf, fin, binary32, unlike, up, down, round, lt, le, eq, isNan, mul, neg, ofInt, ofBits}
+use lib.Ieee.Fits.{down-pos}
 use lib.Ieee.Exact.{HasValue, round-exact}
 use lib.Ieee.Order.{round-mono}
-use lib.Ieee.Scale.{round-same, grid, round-val, round-under}
+use lib.Ieee.Scale.{grid, round-val, round-under}
 use lib.Ieee.Positive.{positive-of-value, values-of-le}
 use Rattle.math.specs.Rounded.{_⊗_, _⊘_, zeroF, oneF}
 use Rattle.math.specs.Range.{clamp01Of, Within, AtMost}
 use Rattle.math.specs.Whole.{ceilOf, Is}
 use Rattle.math.proofs.Ceiling.{up-more, up-same, part-most, ceiling-most}
+use Rattle.math.proofs.Fitting.{rounds-none}
 use Rattle.math.proofs.Order.{times-none, lt-le, eq-self, lt-not-eq, le-numbers, le-of-not-lt, lt-le-chain, le-lt-chain}
-use Rattle.math.proofs.Wholes.{whole-is, div-is}
+use Rattle.math.proofs.Wholes.{whole-is, zero-is, lt-is, div-is}
 use Rattle.math.proofs.Upward.{Up, up-none, round-up}
 use Rattle.math.proofs.Sizes.{is-at-most, at-most-finite, round-at-most, mul-at-most}
+use Rattle.math.proofs.Zeros.{none-equal, unlike-clear, either-zero-over}
 use Rattle.math.proofs.Ranges.{one-held, clamp-stays, at-most-within, within-at-most}
 use Rattle.curves.specs.Stairs.{countOf, stairsOf, stepsOf, floorOf, jumpEndOf, isWhole}
 
@@ -165,11 +167,6 @@ above-zero t n p q l =
 abbrev zero-at : Bool → Float
 zero-at s = fin s 0 (pos 0)
 
-zero-rounds : (s : Bool) (a c : ℕ) → a ≡ 0 → 0 < c → round binary32 (unlike s false) a c ≡ zero-at s
-unfolding round
-zero-rounds false a c z C = round-same binary32 false a c 0 1 C (lit< tt) (omega (arith, z))
-zero-rounds true a c z C = round-same binary32 true a c 0 1 C (lit< tt) (omega (arith, z))
-
 zero-floor : (s : Bool) → floorOf (zero-at s) ≡ zero-at s
 unfolding ofInt neg
 zero-floor false = refl
@@ -181,26 +178,10 @@ module _ (s : Bool) (m : ℕ) (e : ℤ) (z : m * up e ≡ 0) where
   zero-product nan n v = absurd v
   zero-product (inf t) n v = absurd v
   zero-product (fin true o d) n v = absurd (true≢false (v .0))
-  zero-product (fin false o d) n v = zero-rounds s (m * up e * (o * up d)) (down e * down d) (times-none (m * up e) (o * up d) z) (mul-pos (down-pos e) (down-pos d))
-
-  zero-equal : eq (fin s m e) zeroF ≡ true
-  unfolding eq ofBits
-  zero-equal = let y : m * up e * 1 ≡ 0 * 1 * down e = omega (arith, z) in let x : m * up e * 1 ≡ 0 = omega (arith, z) in go s (eq-eqb _ _ y) (eq-eqb _ _ x)
-    where
-      go : (s : Bool) → eqb (m * up e * 1) (0 * 1 * down e) ≡ true → eqb (m * up e * 1) 0 ≡ true → eq (fin s m e) zeroF ≡ true
-      go false h k = rw h
-      go true h k = rw (h, k)
+  zero-product (fin false o d) n v = rounds-none binary32 (unlike s false) (m * up e * (o * up d)) (down e * down d) (times-none (m * up e) (o * up d) z) (mul-pos (down-pos e) (down-pos d)) ∙ ap zero-at (unlike-clear s)
 
 zero-quotient : (s : Bool) (c : Float) (n : ℕ) → 0 < n → Is c n → zero-at s ⊘ c ≡ zero-at s
-unfolding div
-zero-quotient s nan n N v = absurd v
-zero-quotient s (inf t) n N v = absurd v
-zero-quotient s (fin true o d) n N v = absurd (true≢false (v .0))
-zero-quotient s (fin false zero d) n N v = absurd (none (n * down d) (up d) (mul-pos N (down-pos d)) (v .1))
-  where
-    none : (a u : ℕ) → 0 < a → 0 * u * 1 ≡ a → ⊥
-    none a u A h = omega arith
-zero-quotient s (fin false (suc o) d) n N v = rw (eqb·suc-zero o) (zero-rounds s (0 * 1 * down d) (suc o * up d * 1) (omega arith) (mul-pos (mul-pos (zero-lt-suc o) (up-pos d)) (lit< tt)))
+zero-quotient s c n N v = either-zero-over s c (at-most-finite n c (is-at-most c n n v (le-refl n))) (subst⁻¹ T (lt-is zeroF c 0 n zero-is v) (lt→ltb 0 n N))
 
 zeros-agree : (s : Bool) → eq zeroF (zero-at s) ≡ isWhole (zero-at s)
 unfolding eq ofBits
@@ -213,7 +194,7 @@ at-zero s m e n z l =
     let c = countOf n in
     let v : Is c N = whole-is binary32 N (omega arith) in
     let p : fin s m e ⊗ c ≡ zero-at s = zero-product s m e z c N v in
-    ap (λ (b : Bool). eq (cond b zeroF (stairsOf (fin s m e) c)) (jumpEndOf (fin s m e) n)) (zero-equal s m e z)
+    ap (λ (b : Bool). eq (cond b zeroF (stairsOf (fin s m e) c)) (jumpEndOf (fin s m e) n)) (none-equal s m e z)
     ∙ ap (λ (y : Float). eq zeroF (floorOf y ⊘ c)) p
     ∙ ap (λ (y : Float). eq zeroF (y ⊘ c)) (zero-floor s)
     ∙ ap (eq zeroF) (zero-quotient s c N (omega arith) v)
@@ -221,10 +202,10 @@ at-zero s m e n z l =
     ∙ ap isWhole (sym p)
 
 -- what is from 0 up and not above 0 has no size
-no-size : (s : Bool) (m : ℕ) (e : ℤ) → Up (fin s m e) → lt zeroF (fin s m e) ≡ false → m * up e ≡ 0
+not-above-none : (s : Bool) (m : ℕ) (e : ℤ) → Up (fin s m e) → lt zeroF (fin s m e) ≡ false → m * up e ≡ 0
 unfolding lt ofBits
-no-size true m e u h = up-none m e u
-no-size false m e u h = none (m * up e) (down e) (ltb-false (0 * 1 * down e) (m * up e * 1) h)
+not-above-none true m e u h = up-none m e u
+not-above-none false m e u h = none (m * up e) (down e) (ltb-false (0 * 1 * down e) (m * up e * 1) h)
   where
     none : (a d : ℕ) → a * 1 ≤ 0 * 1 * d → a ≡ 0
     none a d h = omega arith
@@ -235,7 +216,7 @@ steps-jump-end t n w l = go (lt zeroF t) refl
     finite : (t : Float) → AtMost 1 t → Up t → lt zeroF t ≡ false → eq (stepsOf t n) (jumpEndOf t n) ≡ isWhole (t ⊗ countOf n)
     finite nan h u k = absurd h
     finite (inf s) h u k = absurd h
-    finite (fin s m e) h u k = at-zero s m e n (no-size s m e u k) l
+    finite (fin s m e) h u k = at-zero s m e n (not-above-none s m e u k) l
 
     go : (b : Bool) → lt zeroF t ≡ b → eq (stepsOf t n) (jumpEndOf t n) ≡ isWhole (t ⊗ countOf n)
     go true p = above-zero t n p (w .1) l

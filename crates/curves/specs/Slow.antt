@@ -1,12 +1,8 @@
 -- Document 01, "Easing": SlowMo, slow in the middle. The formulas and their order are those of `easing.rs`.
 use mathlib.Core.Bool.{cond}
 use lib.Ieee.{Float, lt, le}
-use Rattle.math.specs.Rounded.{_⊕_, _⊖_, _⊗_, _⊘_, f32, zeroF, halfF, oneF}
+use Rattle.math.specs.Rounded.{_⊕_, _⊖_, _⊗_, _⊘_, zeroF, halfF, oneF, epsilonF}
 use Rattle.math.specs.Range.{clamp01Of, maxZeroOf}
-
--- 2 ^ -23
-abbrev pub epsilon : Float
-epsilon = f32 0x3400_0000
 
 -- the middle goes from `from` to `to` and is lr wide; `mid` and `edge` are the slopes in it and beside it
 abbrev pub slowPart : Float → Float → Float → Float → Float → Float → Float
@@ -15,7 +11,7 @@ slowPart t lr from to mid edge =
 
 -- 1 where the edges are at most 2 ^ -23 wide
 abbrev pub edgeOf : Float → Float → Float
-edgeOf lr mid = cond (lt epsilon (oneF ⊖ lr)) ((oneF ⊖ mid ⊗ lr) ⊘ (oneF ⊖ lr)) oneF
+edgeOf lr mid = cond (lt epsilonF (oneF ⊖ lr)) ((oneF ⊖ mid ⊗ lr) ⊘ (oneF ⊖ lr)) oneF
 
 abbrev pub midOf : Float → Float → Float
 midOf lr p = oneF ⊘ (oneF ⊕ p ⊗ (oneF ⊖ lr))

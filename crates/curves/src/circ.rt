@@ -2,13 +2,13 @@
 ghost use mathlib.Core.Path.{_≡_};
 ghost use Rattle.math.specs.Rounded.{_⊖_, _⊗_, oneF};
 ghost use Rattle.math.specs.Range.{Within};
-ghost use Rattle.curves.specs.Circ.{arcOf, inCirc, outCirc, inOutCirc};
+ghost use Rattle.curves.specs.Circ.{circleOf, inCirc, outCirc, inOutCirc};
 use crate::root::sqrt;
 
 // The height at y of the circle of radius 1.
-fn arc(y: f32) -> f32
+fn circle(y: f32) -> f32
     requires { ⌜ Within (oneF ⊖ y ⊗ y) ⌝ }
-    ensures { λ r. ⌜ r ≡ arcOf y ⌝ }
+    ensures { λ r. ⌜ r ≡ circleOf y ⌝ }
 {
     sqrt(1.0 - y * y)
 }
@@ -17,14 +17,14 @@ pub fn ease_in_circ(t: f32) -> f32
     requires { ⌜ Within t ⌝ }
     ensures { λ r. ⌜ r ≡ inCirc t ⌝ }
 {
-    1.0 - arc(t)
+    1.0 - circle(t)
 }
 
 pub fn ease_out_circ(t: f32) -> f32
     requires { ⌜ Within t ⌝ }
     ensures { λ r. ⌜ r ≡ outCirc t ⌝ }
 {
-    arc(t - 1.0)
+    circle(t - 1.0)
 }
 
 pub fn ease_in_out_circ(t: f32) -> f32
@@ -32,8 +32,8 @@ pub fn ease_in_out_circ(t: f32) -> f32
     ensures { λ r. ⌜ r ≡ inOutCirc t ⌝ }
 {
     if t < 0.5 {
-        (1.0 - arc(2.0 * t)) / 2.0
+        (1.0 - circle(2.0 * t)) / 2.0
     } else {
-        (arc(-2.0 * t + 2.0) + 1.0) / 2.0
+        (circle(-2.0 * t + 2.0) + 1.0) / 2.0
     }
 }

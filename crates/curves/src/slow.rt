@@ -2,9 +2,8 @@
 ghost use mathlib.Core.Path.{_≡_};
 ghost use Rattle.curves.specs.Slow.{slowPart, edgeOf, slowAt, slowMo};
 
-// 2^-23
-const EPSILON: f32 = 0.00000011920928955078125;
-
+// The slow middle goes from `from` to `to` and is lr wide; mid and edge are the slopes in it and
+// beside it.
 fn part(t: f32, lr: f32, from: f32, to: f32, mid: f32, edge: f32) -> f32
     ensures { λ r. ⌜ r ≡ slowPart t lr from to mid edge ⌝ }
 {
@@ -21,13 +20,14 @@ fn part(t: f32, lr: f32, from: f32, to: f32, mid: f32, edge: f32) -> f32
 fn edge_of(lr: f32, mid: f32) -> f32
     ensures { λ r. ⌜ r ≡ edgeOf lr mid ⌝ }
 {
-    if 1.0 - lr > EPSILON {
+    if 1.0 - lr > math::EPSILON {
         (1.0 - mid * lr) / (1.0 - lr)
     } else {
         1.0
     }
 }
 
+// Between the ends, where lr and p are in range.
 fn slow_at(t: f32, lr: f32, p: f32) -> f32
     ensures { λ r. ⌜ r ≡ slowAt t lr p ⌝ }
 {

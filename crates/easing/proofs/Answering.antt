@@ -17,7 +17,7 @@ use Rattle.easing.specs.Params.{noParams, paramsOf, withinOf, equalOf}
 use Rattle.easing.specs.Apply.{limitedOf, easedAt, applyOf, fitsRecordOf, eqOf}
 use lib.Ieee.Fits.{and-l, and-r}
 
-pub none-within : withinOf noParams ≡ true
+none-within : withinOf noParams ≡ true
 unfolding withinOf le lt eq ofBits
 none-within = refl
 

@@ -7,7 +7,6 @@ use lib.Dec.{T, leb→le, lit≤}
 use lib.Ieee.{Float, isNan, ofBits}
 use lib.Ieee.Fits.{and-l, and-r}
 use Rattle.math.specs.Whole.{Is}
-use Rattle.math.specs.Rounded.{f32}
 use Rattle.math.specs.Range.{clamp01Of, finiteOf, Within, AtMost}
 use Rattle.math.proofs.Choice.{by-test}
 use Rattle.math.proofs.Numbers.{finite-number}
@@ -21,23 +20,22 @@ use Rattle.curves.specs.Stairs.{stepsOf}
 use Rattle.bezier.specs.Bezier.{cubicBezier}
 use Rattle.curves.proofs.Bounds.{in-power, out-power, in-out-power, in-back, out-back, in-out-back, in-bounce, out-bounce, in-out-bounce, custom-bounce-most, slow-mo-most, steps-within}
 use Rattle.curves.proofs.Circles.{circ-at-most}
-use Rattle.bezier.proofs.Answers.{answer-limited}
+use Rattle.bezier.proofs.Answers.{answer-at-most}
 use Rattle.refusal.specs.declared.Refusal.the-variants.{ProgressIsNan}
 use Rattle.easing.specs.declared.answers.Eased.{Eased}
 use Rattle.easing.specs.declared.answers.Eased.the-variants.{Value, Refused}
 use Rattle.easing.specs.Kinds.{curveOf}
-use Rattle.easing.specs.Params.{upTo1024, paramsOf, withinOf}
+use Rattle.easing.specs.Params.{limitF, upTo1024, paramsOf, withinOf}
 use Rattle.easing.specs.Apply.{easedAt, applyOf}
 use Rattle.easing.specs.declared.kinds.Easing.{Easing}
 use Rattle.easing.specs.declared.kinds.Easing.the-variants.{Linear, EaseInQuad, EaseOutQuad, EaseInOutQuad, EaseInCubic, EaseOutCubic, EaseInOutCubic, EaseInQuart, EaseOutQuart, EaseInOutQuart, EaseInQuint, EaseOutQuint, EaseInOutQuint, EaseInSine, EaseOutSine, EaseInOutSine, EaseInExpo, EaseOutExpo, EaseInOutExpo, EaseInCirc, EaseOutCirc, EaseInOutCirc, EaseInBack, EaseOutBack, EaseInOutBack, EaseInElastic, EaseOutElastic, EaseInOutElastic, EaseInBounce, EaseOutBounce, EaseInOutBounce, CubicBezier, Steps, RoughEase, SlowMo, Wiggle, CustomBounce, ExpoScale}
 
--- 1,024
-limit-is : Is (f32 0x4480_0000) 1024
+limit-is : Is limitF 1024
 unfolding ofBits
 limit-is = (refl, refl)
 
 up-to-1024 : (x : Float) → T (upTo1024 x) → AtMost 1024 x
-up-to-1024 x h = size-at-most 1024 x (f32 0x4480_0000) limit-is h
+up-to-1024 x h = size-at-most 1024 x limitF limit-is h
 
 abbrev Bounded : Option (Float → Float) → Float → Type 0
 Bounded none u = Unit {0}
@@ -80,7 +78,7 @@ module _ (u : Float) (w : Within u) where
   bounded EaseInBounce h = more 290 (inBounce u) (lit≤ tt) (in-bounce u w)
   bounded EaseOutBounce h = more 289 (outBounce u) (lit≤ tt) (out-bounce u w)
   bounded EaseInOutBounce h = more 290 (inOutBounce u) (lit≤ tt) (in-out-bounce u w)
-  bounded (CubicBezier x1 y1 x2 y2) h = more 24577 (cubicBezier u x1 y1 x2 y2) (lit≤ tt) (answer-limited u x1 y1 x2 y2 w (search (and-l, and-r)) (search (and-l, and-r)) (up-to-1024 y1 (search (and-l, and-r))) (up-to-1024 y2 (search (and-l, and-r))))
+  bounded (CubicBezier x1 y1 x2 y2) h = more 24577 (cubicBezier u x1 y1 x2 y2) (lit≤ tt) (answer-at-most 1024 (lit≤ tt) u x1 y1 x2 y2 w (search (and-l, and-r)) (search (and-l, and-r)) (up-to-1024 y1 (search (and-l, and-r))) (up-to-1024 y2 (search (and-l, and-r))))
   bounded (Steps n) h = more 1 (stepsOf u n) (lit≤ tt) (within-at-most (stepsOf u n) (steps-within u n w (leb→le n 65536 (search (and-l, and-r)))))
   bounded (RoughEase strength points) h = tt
   bounded (SlowMo ratio power) h = slow-mo-most u ratio power w (finite-number ratio (search (and-l, and-r))) (up-to-1024 power (search (and-l, and-r)))

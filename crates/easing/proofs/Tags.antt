@@ -33,52 +33,52 @@ pub record Told (e : Easing) : Type 0 where
   pub supplied : suppliedOf e ≡ not (among twelve (numberOf e))
   pub plain : among four (numberOf e) ≡ false → paramsOf e ≡ noParams
 
-with-params : (e : Easing) → tagOf the-type e ≡ numberOf e → suppliedOf e ≡ not (among twelve (numberOf e)) → among four (numberOf e) ≡ true → Told e
-with-params e t s f = record { tag = t; supplied = s; plain = λ p. absurd (subst T (sym f ∙ p) tt) }
+some-params : (e : Easing) → tagOf the-type e ≡ numberOf e → suppliedOf e ≡ not (among twelve (numberOf e)) → among four (numberOf e) ≡ true → Told e
+some-params e t s f = record { tag = t; supplied = s; plain = λ p. absurd (subst T (sym f ∙ p) tt) }
 
-without : (e : Easing) → tagOf the-type e ≡ numberOf e → suppliedOf e ≡ not (among twelve (numberOf e)) → paramsOf e ≡ noParams → Told e
-without e t s p = record { tag = t; supplied = s; plain = λ _. p }
+no-params : (e : Easing) → tagOf the-type e ≡ numberOf e → suppliedOf e ≡ not (among twelve (numberOf e)) → paramsOf e ≡ noParams → Told e
+no-params e t s p = record { tag = t; supplied = s; plain = λ _. p }
 
 pub told : (e : Easing) → Told e
 unfolding suppliedOf paramsOf
-told Linear = without Linear refl refl refl
-told EaseInQuad = without EaseInQuad refl refl refl
-told EaseOutQuad = without EaseOutQuad refl refl refl
-told EaseInOutQuad = without EaseInOutQuad refl refl refl
-told EaseInCubic = without EaseInCubic refl refl refl
-told EaseOutCubic = without EaseOutCubic refl refl refl
-told EaseInOutCubic = without EaseInOutCubic refl refl refl
-told EaseInQuart = without EaseInQuart refl refl refl
-told EaseOutQuart = without EaseOutQuart refl refl refl
-told EaseInOutQuart = without EaseInOutQuart refl refl refl
-told EaseInQuint = without EaseInQuint refl refl refl
-told EaseOutQuint = without EaseOutQuint refl refl refl
-told EaseInOutQuint = without EaseInOutQuint refl refl refl
-told EaseInSine = without EaseInSine refl refl refl
-told EaseOutSine = without EaseOutSine refl refl refl
-told EaseInOutSine = without EaseInOutSine refl refl refl
-told EaseInExpo = without EaseInExpo refl refl refl
-told EaseOutExpo = without EaseOutExpo refl refl refl
-told EaseInOutExpo = without EaseInOutExpo refl refl refl
-told EaseInCirc = without EaseInCirc refl refl refl
-told EaseOutCirc = without EaseOutCirc refl refl refl
-told EaseInOutCirc = without EaseInOutCirc refl refl refl
-told EaseInBack = without EaseInBack refl refl refl
-told EaseOutBack = without EaseOutBack refl refl refl
-told EaseInOutBack = without EaseInOutBack refl refl refl
-told EaseInElastic = without EaseInElastic refl refl refl
-told EaseOutElastic = without EaseOutElastic refl refl refl
-told EaseInOutElastic = without EaseInOutElastic refl refl refl
-told EaseInBounce = without EaseInBounce refl refl refl
-told EaseOutBounce = without EaseOutBounce refl refl refl
-told EaseInOutBounce = without EaseInOutBounce refl refl refl
-told (CubicBezier x1 y1 x2 y2) = with-params (CubicBezier x1 y1 x2 y2) refl refl refl
-told (Steps n) = with-params (Steps n) refl refl refl
-told (RoughEase strength points) = without (RoughEase strength points) refl refl refl
-told (SlowMo ratio power) = with-params (SlowMo ratio power) refl refl refl
-told (Wiggle wiggles) = without (Wiggle wiggles) refl refl refl
-told (CustomBounce strength) = with-params (CustomBounce strength) refl refl refl
-told (ExpoScale start end) = without (ExpoScale start end) refl refl refl
+told Linear = no-params Linear refl refl refl
+told EaseInQuad = no-params EaseInQuad refl refl refl
+told EaseOutQuad = no-params EaseOutQuad refl refl refl
+told EaseInOutQuad = no-params EaseInOutQuad refl refl refl
+told EaseInCubic = no-params EaseInCubic refl refl refl
+told EaseOutCubic = no-params EaseOutCubic refl refl refl
+told EaseInOutCubic = no-params EaseInOutCubic refl refl refl
+told EaseInQuart = no-params EaseInQuart refl refl refl
+told EaseOutQuart = no-params EaseOutQuart refl refl refl
+told EaseInOutQuart = no-params EaseInOutQuart refl refl refl
+told EaseInQuint = no-params EaseInQuint refl refl refl
+told EaseOutQuint = no-params EaseOutQuint refl refl refl
+told EaseInOutQuint = no-params EaseInOutQuint refl refl refl
+told EaseInSine = no-params EaseInSine refl refl refl
+told EaseOutSine = no-params EaseOutSine refl refl refl
+told EaseInOutSine = no-params EaseInOutSine refl refl refl
+told EaseInExpo = no-params EaseInExpo refl refl refl
+told EaseOutExpo = no-params EaseOutExpo refl refl refl
+told EaseInOutExpo = no-params EaseInOutExpo refl refl refl
+told EaseInCirc = no-params EaseInCirc refl refl refl
+told EaseOutCirc = no-params EaseOutCirc refl refl refl
+told EaseInOutCirc = no-params EaseInOutCirc refl refl refl
+told EaseInBack = no-params EaseInBack refl refl refl
+told EaseOutBack = no-params EaseOutBack refl refl refl
+told EaseInOutBack = no-params EaseInOutBack refl refl refl
+told EaseInElastic = no-params EaseInElastic refl refl refl
+told EaseOutElastic = no-params EaseOutElastic refl refl refl
+told EaseInOutElastic = no-params EaseInOutElastic refl refl refl
+told EaseInBounce = no-params EaseInBounce refl refl refl
+told EaseOutBounce = no-params EaseOutBounce refl refl refl
+told EaseInOutBounce = no-params EaseInOutBounce refl refl refl
+told (CubicBezier x1 y1 x2 y2) = some-params (CubicBezier x1 y1 x2 y2) refl refl refl
+told (Steps n) = some-params (Steps n) refl refl refl
+told (RoughEase strength points) = no-params (RoughEase strength points) refl refl refl
+told (SlowMo ratio power) = some-params (SlowMo ratio power) refl refl refl
+told (Wiggle wiggles) = no-params (Wiggle wiggles) refl refl refl
+told (CustomBounce strength) = some-params (CustomBounce strength) refl refl refl
+told (ExpoScale start end) = no-params (ExpoScale start end) refl refl refl
 
 -- what a test says of each key of an arm, it says of the tag
 one-of : (f : ℕ → Bool) (ks : List ℕ) (x : ℕ) → T (every f ks) → OneOf ks x → f x ≡ true
@@ -87,5 +87,5 @@ one-of f (k ∷ []) x h o = subst (λ n. f n ≡ true) (sym o) (is-true (f k) (a
 one-of f (k ∷ j ∷ ks) x h o = ⊎-elim (λ e. subst (λ n. f n ≡ true) (sym e) (is-true (f k) (and-l (f k) _ h))) (λ r. one-of f (j ∷ ks) x (and-r (f k) _ h) r) o
 
 -- and so of the number of the kind
-pub numbered : (f : ℕ → Bool) (ks : List ℕ) (e : Easing) → T (every f ks) → OneOf ks (tagOf the-type e) → f (numberOf e) ≡ true
-numbered f ks e h o = subst (λ n. f n ≡ true) (told e .tag) (one-of f ks (tagOf the-type e) h o)
+pub by-tag : (f : ℕ → Bool) (ks : List ℕ) (e : Easing) → T (every f ks) → OneOf ks (tagOf the-type e) → f (numberOf e) ≡ true
+by-tag f ks e h o = subst (λ n. f n ≡ true) (told e .tag) (one-of f ks (tagOf the-type e) h o)

@@ -14,10 +14,11 @@ abbrev pub suppliedIn : List Easing → List Easing
 suppliedIn [] = []
 suppliedIn (e ∷ es) = cond (suppliedOf e) (e ∷ suppliedIn es) (suppliedIn es)
 
--- the answer is the number v; a zero of either sign is 0
-abbrev pub is : Eased → Float → Bool
-is (Value x) v = eq x v
-is (Refused r) v = false
+-- the answer is a value, and equal to v; a zero of either sign is 0
+abbrev pub equals : Eased → Float → Bool
+equals (Value x) v = eq x v
+equals (Refused r) v = false
 
+-- 0 at 0, and 1 at 1
 abbrev pub ended : Easing → Bool
-ended e = is (applyOf e zeroF) zeroF && is (applyOf e oneF) oneF
+ended e = equals (applyOf e zeroF) zeroF && equals (applyOf e oneF) oneF

@@ -57,9 +57,13 @@ paramsOf (Wiggle wiggles) = noParams
 paramsOf (CustomBounce strength) = params strength zeroF zeroF zeroF 0
 paramsOf (ExpoScale start end) = noParams
 
+-- 1,024
+abbrev pub limitF : Float
+limitF = f32 0x4480_0000
+
 -- at most 1,024 in size
 abbrev pub upTo1024 : Float → Bool
-upTo1024 x = le (sizeOf x) (f32 0x4480_0000)
+upTo1024 x = le (sizeOf x) limitF
 
 -- "parameter is not finite, a Bezier y or a power is beyond 1,024 in size, or Steps is above 65,536"
 unfoldable pub withinOf : Params → Bool

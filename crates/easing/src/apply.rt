@@ -8,6 +8,7 @@ use crate::params::within;
 use refusal::Refusal;
 use units::Progress;
 
+// `fine` says whether the parameters are within their limits.
 fn limited(fine: bool, value: f32) -> Eased
     ensures { λ r. ⌜ r ≡ limitedOf fine value ⌝ }
 {

@@ -13,6 +13,8 @@ pub struct Params {
     pub count: u32,
 }
 
+// What a kind does not have is 0. The parameters of the twelve kinds that are refused are never
+// looked at.
 pub fn params_of(e: Easing) -> Params
     ensures { λ r. ⌜ r ≡ paramsOf e ⌝ }
 {
@@ -58,6 +60,7 @@ pub fn params_of(e: Easing) -> Params
     }
 }
 
+// Finite, b and d at most 1,024 in size, and the count at most 65,536.
 pub fn within(p: Params) -> bool
     ensures { λ r. ⌜ r ≡ withinOf p ⌝ }
 {
@@ -68,6 +71,7 @@ pub fn within(p: Params) -> bool
         & (p.count <= 65536)
 }
 
+// As numbers: -0 equals 0.
 pub fn equal(p: Params, q: Params) -> bool
     ensures { λ r. ⌜ r ≡ equalOf p q ⌝ }
 {

@@ -2,17 +2,17 @@
 use mathlib.Core.Path.{_≡_}
 use mathlib.Core.Bool.{true, false}
 use lib.Ieee.{Float, isNan}
-use Rattle.math.specs.Rounded.{_⊖_, _⊘_, oneF}
-use Rattle.math.specs.Range.{clamp01Of}
+use denote.Floats.{passes as holds}
+use Rattle.math.specs.Rounded.{oneF}
 use Rattle.math.proofs.Order.{le-numbers}
 use Rattle.easing.specs.declared.kinds.Easing.{Easing}
 use Rattle.easing.specs.declared.answers.Eased.the-variants.{Value}
 use Rattle.easing.specs.Apply.{applyOf, fitsRecordOf}
 use Rattle.frames.specs.declared.frame.Keyframe.{Keyframe}
 use Rattle.frames.specs.Limits.{frameOf}
-use Rattle.frames.specs.Sampling.{spanOf, easedOf}
-use Rattle.frames.proofs.Rising.{holds, time-fine, easing-fine}
-use Rattle.frames.proofs.Tops.{Clock, time-clock}
+use Rattle.frames.specs.Sampling.{alongOf, easedOf}
+use Rattle.frames.proofs.Rising.{time-fine, easing-fine}
+use Rattle.frames.proofs.Clocks.{Clock, time-clock}
 use Rattle.frames.proofs.Samples.{local-within}
 use Rattle.easing.proofs.Answering.{fits-answers}
 
@@ -22,8 +22,8 @@ eased-answers e p h n =
     rw (k .1)
 
 pub between-answers : (k l : Keyframe) (t : Float) → frameOf k ≡ true → frameOf l ≡ true → Clock t
-    → let p = clamp01Of ((t ⊖ k .time) ⊘ spanOf (l .time ⊖ k .time)) in
+    → let p = alongOf (k .time) (l .time) t in
     applyOf (k .easing) p ≡ Value (easedOf (k .easing) p)
 between-answers k l t f g c =
     let w = local-within t (k .time) (l .time) c (time-clock (k .time) (time-fine k f)) (time-clock (l .time) (time-fine l g)) in
-    eased-answers (k .easing) (clamp01Of ((t ⊖ k .time) ⊘ spanOf (l .time ⊖ k .time))) (easing-fine k f) (le-numbers (clamp01Of ((t ⊖ k .time) ⊘ spanOf (l .time ⊖ k .time))) oneF (w .1) .0)
+    eased-answers (k .easing) (alongOf (k .time) (l .time) t) (easing-fine k f) (le-numbers (alongOf (k .time) (l .time) t) oneF (w .1) .0)

@@ -11,12 +11,13 @@ use lib.Ieee.{Float, nan, le}
 use lib.Ieee.Bits.{is-true}
 use mir.Syntax.{w32}
 use mir.Val.{Fits, boolByte}
+use denote.Floats.{passes as holds}
 use Rattle.math.proofs.Order.{lt-le, le-chain}
 use Rattle.frames.specs.declared.frame.Keyframe.{Keyframe}
 use Rattle.frames.specs.Limits.{framesAfter, noFrame}
 use Rattle.frames.specs.Counting.{countOf, counted}
 use Rattle.frames.specs.Sampling.{timesOf, leading, passedOf, firstOf, lastOf}
-use Rattle.frames.proofs.Rising.{holds, rest-fine, head-above}
+use Rattle.frames.proofs.Rising.{rest-fine, head-above}
 
 -- a test adds at most 1
 pub byte-below : (b : Bool) (c i : ℕ) → c < i → c + boolByte b < i + 1

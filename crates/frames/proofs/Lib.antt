@@ -1,7 +1,8 @@
 pub mod Answering
-mod Blends
-pub mod Fills
+pub mod Clocks
 pub mod Counts
+mod EasedAtZero
+pub mod Fills
 pub mod Owned
 pub mod Picks
 mod Places
@@ -10,7 +11,5 @@ pub mod Rising
 pub mod Samples
 pub mod Scans
 mod Shifts
-pub mod Tops
+mod Times
 pub mod Walks
-mod Zeros
-mod Zeroth

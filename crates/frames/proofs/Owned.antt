@@ -1,7 +1,7 @@
 -- A sample at a frame's own time equals, by ==, that frame's value, where that is a value of binary32. Assumes nothing.
 use Prim.Native.Nat.{ℕ, _+_, _-_, _<_, _≤_}
-use mathlib.Core.Path.{_≡_, ap, _∙_}
-use mathlib.Core.Bool.{true, false, not}
+use mathlib.Core.Path.{_≡_}
+use mathlib.Core.Bool.{true, false}
 use mathlib.Core.List.{List}
 use mathlib.Core.Logic.{⊎-elim}
 use native.Mathlib.Nat.{eq-zero-or-pos, eq-or-lt-of-le}
@@ -9,23 +9,24 @@ use native.Mathlib.Omega.{arith}
 use borrow.Author.Tests.{ne-eqb}
 use lib.Dec.{T, lit≤}
 use lib.ListN.{length, getD}
-use lib.Ieee.{Float, binary32, fits, lt, le, eq, isNan}
+use lib.Ieee.{binary32, fits, lt, le, eq, isNan}
 use lib.Ieee.Bits.{is-true}
 use Rattle.math.specs.Rounded.{_⊖_, _⊘_, zeroF}
 use Rattle.math.specs.Range.{finiteOf, clamp01Of}
-use Rattle.math.proofs.Order.{le-numbers, le-self, lt-le, le-lt-chain, le-turned, eq-self}
+use Rattle.math.proofs.Order.{le-self, le-lt-chain, not-le-of-lt, eq-self}
 use Rattle.math.proofs.Numbers.{finite-number}
+use Rattle.math.proofs.Wholes.{power-is}
+use Rattle.math.proofs.Zeros.{sub-self, zero-over}
+use Rattle.math.proofs.Blends.{blend-zero}
 use Rattle.math.proofs.Sizes.{at-most-finite, sub-at-most}
 use Rattle.frames.specs.declared.frame.Keyframe.{Keyframe}
 use Rattle.frames.specs.Limits.{frameOf, framesOf, beforeAll, noFrame}
 use Rattle.frames.specs.Sampling.{passedOf, firstOf, lastOf, spanOf, betweenOf, sampleOf}
-use Rattle.frames.proofs.Rising.{each-fine, rising, time-fine}
-use Rattle.frames.proofs.Tops.{clock-finite, time-clock}
+use Rattle.frames.proofs.Rising.{each-fine, rising, time-fine, time-number}
+use Rattle.frames.proofs.Clocks.{clock-finite, time-clock}
 use Rattle.frames.proofs.Picks.{passed-interval}
 use Rattle.frames.proofs.Samples.{value-bound, span-finite, span-above, sample-first, sample-last}
-use Rattle.frames.proofs.Blends.{sub-self, zero-over, blend-zero}
-use Rattle.frames.proofs.Zeroth.{zero-clamped, eased-zero}
-use Rattle.math.proofs.Bounded.{held-25}
+use Rattle.frames.proofs.EasedAtZero.{zero-clamped, eased-zero}
 
 -- the value of a frame is finite, and so is what lies between two
 finite-value : (k : Keyframe) → frameOf k ≡ true → T (finiteOf (k .value))
@@ -33,7 +34,7 @@ finite-value k f = at-most-finite 16777216 (k .value) (value-bound k f)
 
 finite-apart : (k l : Keyframe) → frameOf k ≡ true → frameOf l ≡ true → T (finiteOf (l .value ⊖ k .value))
 finite-apart k l f g =
-    at-most-finite 33554432 (l .value ⊖ k .value) (sub-at-most binary32 33554432 held-25 16777216 16777216 (l .value) (k .value) (lit≤ tt) (value-bound l g) (value-bound k f))
+    at-most-finite 33554432 (l .value ⊖ k .value) (sub-at-most binary32 33554432 (power-is binary32 25 (lit≤ tt)) 16777216 16777216 (l .value) (k .value) (lit≤ tt) (value-bound l g) (value-bound k f))
 
 between-own : (k l : Keyframe) → frameOf k ≡ true → frameOf l ≡ true → T (fits binary32 (k .value)) → eq (betweenOf k l (k .time)) (k .value) ≡ true
 unfolding betweenOf
@@ -44,17 +45,12 @@ between-own k l f g F =
     let z : clamp01Of ((k .time ⊖ k .time) ⊘ s) ≡ zeroF = rw (sub-self (k .time) (clock-finite (k .time) ck), zero-over s (span-finite (k .time) (k .time) (l .time) ck ck cl) (span-above (k .time) (k .time) (l .time) ck ck cl)) zero-clamped in
     rw z (blend-zero (k .value) (l .value) _ F (finite-value k f) (finite-apart k l f g) (eased-zero (k .easing)))
 
-not-le : (x y : Float) → T (lt x y) → le y x ≡ false
-not-le x y h =
-    let n = le-numbers x y (lt-le x y h) in
-    le-turned y x (n .1) (n .0) ∙ ap not (is-true (lt x y) h)
-
 module _ (l : List Keyframe) (fine : framesOf l ≡ true) (p : ℕ) (here : p < length l) (held : T (fits binary32 (getD l p noFrame .value))) where
   same : eq (getD l p noFrame .value) (getD l p noFrame .value) ≡ true
   same = eq-self (getD l p noFrame .value) (finite-number (getD l p noFrame .value) (finite-value (getD l p noFrame) (each-fine beforeAll l fine p here)))
 
   real : isNan (getD l p noFrame .time) ≡ false
-  real = le-numbers zeroF (getD l p noFrame .time) (time-clock (getD l p noFrame .time) (time-fine (getD l p noFrame) (each-fine beforeAll l fine p here)) .0) .1
+  real = time-number (getD l p noFrame .time) (time-fine (getD l p noFrame) (each-fine beforeAll l fine p here))
 
   -- between the first frame and the last
   inner : 0 < p → p < length l - 1 → eq (sampleOf l (getD l p noFrame .time)) (getD l p noFrame .value) ≡ true
@@ -65,9 +61,9 @@ module _ (l : List Keyframe) (fine : framesOf l ≡ true) (p : ℕ) (here : p < 
       let last : T (lt x (lastOf l .time)) = rising beforeAll l fine p (length l - 1) high (omega arith) in
       let next : T (lt x (getD l (p + 1) noFrame .time)) = rising beforeAll l fine p (p + 1) (omega arith) (omega arith) in
       let up : T (lt zeroF x) = le-lt-chain zeroF (firstOf l .time) x (time-clock (firstOf l .time) (time-fine (firstOf l) (each-fine beforeAll l fine 0 (omega arith))) .0) first in
-      let e : passedOf x l ≡ p + 1 = passed-interval l x p fine (omega arith) (is-true (le x x) (le-self x real)) (not-le x (getD l (p + 1) noFrame .time) next) in
+      let e : passedOf x l ≡ p + 1 = passed-interval l x p fine (omega arith) (is-true (le x x) (le-self x real)) (not-le-of-lt x (getD l (p + 1) noFrame .time) next) in
       let d : p + 1 - 1 ≡ p = omega arith in
-      rw (ne-eqb (length l) 1 (λ o. omega (arith, o, low, high)), is-true (lt zeroF x) up, is-true (lt x (lastOf l .time)) last, not-le (firstOf l .time) x first, not-le x (lastOf l .time) last, e, d)
+      rw (ne-eqb (length l) 1 (λ o. omega (arith, o, low, high)), is-true (lt zeroF x) up, is-true (lt x (lastOf l .time)) last, not-le-of-lt (firstOf l .time) x first, not-le-of-lt x (lastOf l .time) last, e, d)
       (between-own (getD l p noFrame) (getD l (p + 1) noFrame) (each-fine beforeAll l fine p here) (each-fine beforeAll l fine (p + 1) (omega arith)) held)
 
   at-first : p ≡ 0 → sampleOf l (getD l p noFrame .time) ≡ getD l p noFrame .value

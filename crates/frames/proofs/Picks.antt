@@ -12,16 +12,15 @@ use lib.Seq.{getD-take, length-take-le}
 use lib.Ieee.{Float, lt, le, isNan}
 use lib.Ieee.Bits.{is-true}
 use borrow.Author.Tests.{eqb-true}
-use Rattle.math.specs.Rounded.{zeroF}
+use denote.Floats.{passes as holds}
 use Rattle.math.specs.Range.{maxZeroOf}
 use Rattle.math.proofs.Choice.{by-test}
 use Rattle.math.proofs.Order.{le-numbers, le-self, lt-le, le-chain, lt-of-not-le}
-use Rattle.math.proofs.Upward.{max-zero-up}
 use Rattle.frames.specs.declared.frame.Keyframe.{Keyframe}
 use Rattle.frames.specs.Limits.{framesOf, beforeAll, noFrame}
 use Rattle.frames.specs.Counting.{counted}
 use Rattle.frames.specs.Sampling.{timesOf, passedOf, lastOf, cutOf, betweenOf, pickOf, atOf, sampleOf}
-use Rattle.frames.proofs.Rising.{holds, each-fine, rising, time-fine, time-number}
+use Rattle.frames.proofs.Rising.{each-fine, rising, time-fine, time-number}
 use Rattle.frames.proofs.Walks.{lead-is, lead-below}
 use Rattle.frames.proofs.Counts.{counted-passed, counted-front}
 
@@ -29,12 +28,9 @@ use Rattle.frames.proofs.Counts.{counted-passed, counted-front}
 pub passed-interval : (l : List Keyframe) (t : Float) (i : ℕ) → framesOf l ≡ true → i + 1 < length l → le (getD l i noFrame .time) t ≡ true → le (getD l (i + 1) noFrame .time) t ≡ false → passedOf t l ≡ i + 1
 passed-interval l t i f h a z =
     lead-is (λ (k : Keyframe). le (k .time) t) l (i + 1) (omega arith)
-    (λ j b. ⊎-elim (λ (e : j ≡ i). rw e a) (λ (e : j < i). is-true (le (getD l j noFrame .time) t) (earlier j e)) (below j i b))
+    (λ j b. ⊎-elim (λ (e : j ≡ i). rw e a) (λ (e : j < i). is-true (le (getD l j noFrame .time) t) (earlier j e)) (eq-or-lt-of-le {n = j} {m = i} (omega (arith, b))))
     (λ _. z)
   where
-    below : (j i : ℕ) → j < i + 1 → (j ≡ i) ⊎ (j < i)
-    below j i b = eq-or-lt-of-le (omega (arith, b))
-
     earlier : (j : ℕ) → j < i → T (le (getD l j noFrame .time) t)
     earlier j e =
         le-chain (getD l j noFrame .time) (getD l i noFrame .time) t (lt-le (getD l j noFrame .time) (getD l i noFrame .time) (rising beforeAll l f j i e (omega (arith, h))))
@@ -52,11 +48,8 @@ pick-same first last k l m n t h = go (le t (first .time)) (le (last .time) t) h
         let e = h refl refl in
         rw (e .0, e .1)
 
--- the time that is sampled: a number, and at most the last time
-pub max-zero-number : (x : Float) → isNan (maxZeroOf x) ≡ false
-max-zero-number x = le-numbers zeroF (maxZeroOf x) (max-zero-up x) .1
-
-pub cut-most : (x top : Float) → isNan top ≡ false → T (le (cutOf x top) top)
+-- the time that is sampled is at most the last time
+cut-most : (x top : Float) → isNan top ≡ false → T (le (cutOf x top) top)
 cut-most x top n = by-test (λ (z : Float). T (le z top)) (lt x top) x top (λ h. lt-le x top (holds (lt x top) h)) (λ _. le-self top n)
 
 module _ (fs : List Keyframe) (n : ℕ) (some : 1 ≤ n) (fit : n ≤ length fs) (fine : framesOf (take n fs) ≡ true) where
@@ -100,7 +93,7 @@ module _ (fs : List Keyframe) (n : ℕ) (some : 1 ≤ n) (fit : n ≤ length fs)
         let d : i + 1 - 1 ≡ i = omega arith in
         (rw (e, d) (sym (at i (omega (arith, h)))), rw e (sym (at (i + 1) h)))
 
-    pub at-time : (i : ℕ) → Place i → pickOf (getD fs 0 noFrame) (getD fs (n - 1) noFrame) (getD fs i noFrame) (getD fs (i + 1) noFrame) t ≡ atOf (take n fs) t
+    at-time : (i : ℕ) → Place i → pickOf (getD fs 0 noFrame) (getD fs (n - 1) noFrame) (getD fs i noFrame) (getD fs (i + 1) noFrame) t ≡ atOf (take n fs) t
     at-time i p =
         pick-same (getD fs 0 noFrame) (getD fs (n - 1) noFrame) _ _ (getD (take n fs) (passedOf t (take n fs) - 1) noFrame) (getD (take n fs) (passedOf t (take n fs)) noFrame) t (λ a z. same i z (p a z))
         ∙ rw (at 0 some, last-at)

@@ -14,7 +14,7 @@ use Rattle.frames.specs.Sampling.{leading}
 use Rattle.frames.specs.Pushing.{pushedOf, putOf, earlierOf, insertOf}
 
 module _ (k : Keyframe) where
-  pub pushed-same : (l : List Keyframe) → earlierOf (k .time) l < length l → eq (getD l (earlierOf (k .time) l) noFrame .time) (k .time) ≡ true
+  pushed-same : (l : List Keyframe) → earlierOf (k .time) l < length l → eq (getD l (earlierOf (k .time) l) noFrame .time) (k .time) ≡ true
       → pushedOf k l ≡ set l (earlierOf (k .time) l) k
   unfolding pushedOf leading
   pushed-same [] h e = absurd (omega (arith, h))
@@ -27,7 +27,7 @@ module _ (k : Keyframe) where
       go rest true h e = ap (λ (r : List Keyframe). f ∷ r) (rest (omega (arith, h)) e)
       go rest false h e = rw e
 
-  pub pushed-new : (l : List Keyframe) → (earlierOf (k .time) l < length l → eq (getD l (earlierOf (k .time) l) noFrame .time) (k .time) ≡ false)
+  pushed-new : (l : List Keyframe) → (earlierOf (k .time) l < length l → eq (getD l (earlierOf (k .time) l) noFrame .time) (k .time) ≡ false)
       → pushedOf k l ≡ take (earlierOf (k .time) l) l ++ k ∷ drop (earlierOf (k .time) l) l
   unfolding pushedOf leading
   pushed-new [] e = refl

@@ -1,7 +1,7 @@
 -- A frame pushed among frames within their limits: the frames stay within them, ascending; the last time is the later one; and the frame is there. Assumes nothing.
 use Prim.Native.Nat.{ℕ, suc, _-_, _<_}
 use mathlib.Core.Path.{_≡_, refl, sym, ap, _∙_, subst}
-use mathlib.Core.Bool.{Bool, true, false, cond, _||_}
+use mathlib.Core.Bool.{Bool, true, false, cond}
 use mathlib.Core.List.{List, [], _∷_}
 use native.Mathlib.Omega.{arith}
 use borrow.Author.Tests.{ne-eqb}
@@ -9,33 +9,26 @@ use lib.Dec.{T}
 use lib.ListN.{length, getD}
 use lib.Ieee.{Float, lt, le, eq, isNan}
 use lib.Ieee.Bits.{is-true}
+use denote.Floats.{passes as holds}
 use Rattle.math.specs.Rounded.{zeroF}
 use Rattle.math.proofs.Choice.{by-test}
 use Rattle.math.proofs.Upward.{Up}
-use Rattle.math.proofs.Order.{lt-le, le-of-not-lt, not-lt-of-le, le-lt-chain}
+use Rattle.math.proofs.Order.{lt-le, equal-le, le-of-not-lt, not-lt-of-le, le-lt-chain}
 use Rattle.frames.specs.declared.frame.Keyframe.{Keyframe}
 use Rattle.frames.specs.Limits.{frameOf, framesAfter, framesOf, beforeAll, noFrame}
 use Rattle.frames.specs.Sampling.{lastOf, durationOf}
 use Rattle.frames.specs.Pushing.{pushedOf}
-use Rattle.frames.proofs.Rising.{holds, time-fine, time-number, head-fine, head-above, rest-fine, above}
+use Rattle.frames.proofs.Rising.{time-fine, time-number, head-fine, head-above, rest-fine, above}
 
 -- two times, of which the first is not below the second
 module _ (x y : Float) (p : isNan x ≡ false) (q : isNan y ≡ false) (h : lt x y ≡ false) where
-  pub apart : eq x y ≡ false → T (lt y x)
+  apart : eq x y ≡ false → T (lt y x)
   unfolding le
   apart e = go (lt y x) refl
     where
       go : (b : Bool) → lt y x ≡ b → T b
       go true k = tt
       go false k = absurd (rw (h, e) at (le-of-not-lt y x q p k))
-
-pub eq-le : (x y : Float) → eq x y ≡ true → T (le x y)
-unfolding le
-eq-le x y e = rw e (or-true (lt x y))
-  where
-    or-true : (b : Bool) → T (b || true)
-    or-true true = tt
-    or-true false = tt
 
 frames-cons : (p : Float) (k : Keyframe) (ks : List Keyframe) → frameOf k ≡ true → T (lt p (k .time)) → framesAfter (k .time) ks ≡ true → framesAfter p (k ∷ ks) ≡ true
 unfolding framesAfter
@@ -85,7 +78,7 @@ last-cons f l some =
     let e : length (f ∷ l) - 1 ≡ suc (length l - 1) = omega (arith, some) in
     rw e
 
-pub pushed-some : (k : Keyframe) (l : List Keyframe) → 0 < length (pushedOf k l)
+pushed-some : (k : Keyframe) (l : List Keyframe) → 0 < length (pushedOf k l)
 unfolding pushedOf
 pushed-some k [] = omega arith
 pushed-some k (f ∷ fs) =
@@ -103,7 +96,7 @@ module _ (k : Keyframe) (real : isNan (k .time) ≡ false) where
       let n : isNan (f .time) ≡ false = time-number (f .time) (time-fine f (head-fine p f [] h)) in
       by-test (Later k (f .time)) (lt (f .time) (k .time)) (f ∷ k ∷ []) _ (λ a. rw (not-lt-of-le (f .time) (k .time) (lt-le (f .time) (k .time) (holds (lt (f .time) (k .time)) a))))
       (λ a.
-      by-test (Later k (f .time)) (eq (f .time) (k .time)) (k ∷ []) (k ∷ f ∷ []) (λ e. rw (not-lt-of-le (f .time) (k .time) (eq-le (f .time) (k .time) e)))
+      by-test (Later k (f .time)) (eq (f .time) (k .time)) (k ∷ []) (k ∷ f ∷ []) (λ e. rw (not-lt-of-le (f .time) (k .time) (equal-le (f .time) (k .time) (holds (eq (f .time) (k .time)) e))))
       (λ e. rw (is-true (lt (k .time) (f .time)) (apart (f .time) (k .time) n real a e))))
   later-from p f (g ∷ gs) h =
       let n : isNan (f .time) ≡ false = time-number (f .time) (time-fine f (head-fine p f (g ∷ gs) h)) in

@@ -1,12 +1,13 @@
 -- Frames within their limits: each is, and their times ascend. Assumes nothing.
 use Prim.Native.Nat.{ℕ, zero, suc, _<_}
-use mathlib.Core.Path.{_≡_, subst⁻¹}
-use mathlib.Core.Bool.{Bool, true, false, _&&_}
+use mathlib.Core.Path.{_≡_}
+use mathlib.Core.Bool.{true, false, _&&_}
 use mathlib.Core.List.{List, [], _∷_}
 use native.Mathlib.Omega.{arith}
 use lib.Dec.{T}
 use lib.ListN.{length, getD}
 use lib.Ieee.{Float, lt, le, isNan}
+use denote.Floats.{passes as holds}
 use Rattle.math.specs.Rounded.{topF}
 use Rattle.math.specs.Range.{valueOf}
 use Rattle.math.proofs.Choice.{and-both}
@@ -14,10 +15,6 @@ use Rattle.math.proofs.Order.{le-numbers, lt-le, lt-le-chain}
 use Rattle.easing.specs.Apply.{fitsRecordOf}
 use Rattle.frames.specs.declared.frame.Keyframe.{Keyframe}
 use Rattle.frames.specs.Limits.{plusOf, timeOf, frameOf, framesAfter, noFrame}
-
--- a test that passes
-pub holds : (b : Bool) → b ≡ true → T b
-holds b h = subst⁻¹ T h tt
 
 pub time-fine : (k : Keyframe) → frameOf k ≡ true → timeOf (k .time) ≡ true
 unfolding frameOf

@@ -1,26 +1,25 @@
 -- Samples: before and after all frames, and that every sample is finite. Assumes nothing.
-use Prim.Native.Nat.{ℕ, zero, suc, _-_, _<_, _≤_}
-use mathlib.Core.Path.{_≡_, refl, ap, _∙_}
-use mathlib.Core.Bool.{true, false, not}
+use Prim.Native.Nat.{ℕ, _-_, _<_, _≤_}
+use mathlib.Core.Path.{_≡_, refl}
+use mathlib.Core.Bool.{true, false}
 use mathlib.Core.List.{List}
 use native.Mathlib.Omega.{arith}
 use borrow.Author.Tests.{eqb-true, eqb-false}
 use lib.Dec.{T, eqb, lit≤}
-use lib.IntN.{pos}
 use lib.ListN.{length, getD}
-use lib.Ieee.{Float, binary32, lt, le, isNan, ofInt, ofBits}
+use lib.Ieee.{Float, binary32, lt, le, isNan, ofBits}
 use lib.Ieee.Bits.{is-true}
-use Rattle.math.specs.Whole.{Is}
-use Rattle.math.specs.Rounded.{_⊖_, _⊘_, zeroF}
-use Rattle.math.specs.Range.{finiteOf, valueOf, clamp01Of, maxZeroOf, Within, AtMost}
+use denote.Floats.{passes as holds}
+use Rattle.math.specs.Rounded.{_⊖_, _⊘_, zeroF, epsilonF}
+use Rattle.math.specs.Range.{finiteOf, valueOf, maxZeroOf, Within, AtMost}
 use Rattle.math.proofs.Choice.{by-test}
-use Rattle.math.proofs.Order.{le-numbers, le-self, le-chain, lt-le, lt-le-chain, not-lt-of-le, le-of-not-lt, le-turned, lt-of-not-le, lt-not-eq}
+use Rattle.math.proofs.Order.{le-numbers, le-self, le-chain, lt-le, lt-le-chain, not-lt-of-le, not-le-of-lt, le-of-not-lt, lt-of-not-le, lt-not-eq}
 use Rattle.math.proofs.Numbers.{div-number}
-use Rattle.math.proofs.Upward.{max-zero-up}
+use Rattle.math.proofs.Upward.{max-zero-number}
 use Rattle.math.proofs.Sizes.{at-most-finite, at-most-more, sub-near}
 use Rattle.math.proofs.Bounded.{zero-most, value-most, blend-most}
 use Rattle.math.proofs.Ranges.{clamped}
-use Rattle.math.proofs.Wholes.{whole-is}
+use Rattle.math.proofs.Wholes.{power-is}
 use Rattle.easing.specs.declared.kinds.Easing.{Easing}
 use Rattle.easing.specs.declared.answers.Eased.{Eased}
 use Rattle.easing.specs.declared.answers.Eased.the-variants.{Value, Refused}
@@ -28,34 +27,31 @@ use Rattle.easing.specs.Apply.{applyOf}
 use Rattle.easing.proofs.Finite.{apply-bounded}
 use Rattle.frames.specs.declared.frame.Keyframe.{Keyframe}
 use Rattle.frames.specs.Limits.{frameOf, framesOf, beforeAll, noFrame}
-use Rattle.frames.specs.Sampling.{passedOf, firstOf, lastOf, cutOf, epsilon, spanOf, valueIn, easedOf, betweenOf, atOf, sampleOf}
-use Rattle.frames.proofs.Rising.{holds, each-fine, rising, time-fine, value-fine}
-use Rattle.frames.proofs.Tops.{Clock, clock-most, time-clock}
+use Rattle.frames.specs.Sampling.{passedOf, firstOf, lastOf, cutOf, spanOf, valueIn, easedOf, alongOf, betweenOf, atOf, sampleOf}
+use Rattle.frames.proofs.Rising.{each-fine, rising, time-fine, time-number, value-fine}
+use Rattle.frames.proofs.Clocks.{Clock, clock-most, time-clock}
 use Rattle.frames.proofs.Walks.{lead-some, lead-below}
 
-epsilon-finite : T (finiteOf epsilon)
+epsilon-finite : T (finiteOf epsilonF)
 unfolding ofBits
 epsilon-finite = tt
 
-epsilon-above : T (lt zeroF epsilon)
+epsilon-above : T (lt zeroF epsilonF)
 unfolding lt ofBits
 epsilon-above = tt
 
 -- how far through a span t is
 module _ (t x y : Float) (ct : Clock t) (cx : Clock x) (cy : Clock y) where
-  held-24 : Is (ofInt binary32 (pos 16777216)) 16777216
-  held-24 = whole-is binary32 16777216 (lit≤ tt)
-
   apart-finite : (u v : Float) → Clock u → Clock v → T (finiteOf (u ⊖ v))
-  apart-finite u v cu cv = at-most-finite 16777216 (u ⊖ v) (sub-near binary32 16777216 held-24 u v (cu .0) (cv .0) (clock-most u cu) (clock-most v cv))
+  apart-finite u v cu cv = at-most-finite 16777216 (u ⊖ v) (sub-near binary32 16777216 (power-is binary32 24 (lit≤ tt)) u v (cu .0) (cv .0) (clock-most u cu) (clock-most v cv))
 
   pub span-finite : T (finiteOf (spanOf (y ⊖ x)))
-  span-finite = by-test (λ (z : Float). T (finiteOf z)) (lt epsilon (y ⊖ x)) (y ⊖ x) epsilon (λ _. apart-finite y x cy cx) (λ _. epsilon-finite)
+  span-finite = by-test (λ (z : Float). T (finiteOf z)) (lt epsilonF (y ⊖ x)) (y ⊖ x) epsilonF (λ _. apart-finite y x cy cx) (λ _. epsilon-finite)
 
   pub span-above : T (lt zeroF (spanOf (y ⊖ x)))
-  span-above = by-test (λ (z : Float). T (lt zeroF z)) (lt epsilon (y ⊖ x)) (y ⊖ x) epsilon (λ h. lt-le-chain zeroF epsilon (y ⊖ x) epsilon-above (lt-le epsilon (y ⊖ x) (holds (lt epsilon (y ⊖ x)) h))) (λ _. epsilon-above)
+  span-above = by-test (λ (z : Float). T (lt zeroF z)) (lt epsilonF (y ⊖ x)) (y ⊖ x) epsilonF (λ h. lt-le-chain zeroF epsilonF (y ⊖ x) epsilon-above (lt-le epsilonF (y ⊖ x) (holds (lt epsilonF (y ⊖ x)) h))) (λ _. epsilon-above)
 
-  pub local-within : Within (clamp01Of ((t ⊖ x) ⊘ spanOf (y ⊖ x)))
+  pub local-within : Within (alongOf x y t)
   local-within = clamped ((t ⊖ x) ⊘ spanOf (y ⊖ x)) (div-number binary32 (t ⊖ x) (spanOf (y ⊖ x)) (apart-finite t x ct cx) span-finite (lt-not-eq zeroF (spanOf (y ⊖ x)) span-above))
 
 pub value-bound : (k : Keyframe) → frameOf k ≡ true → AtMost 16777216 (k .value)
@@ -71,8 +67,8 @@ eased-most e p = go (applyOf e p) refl
 between-most : (k l : Keyframe) (t : Float) → frameOf k ≡ true → frameOf l ≡ true → AtMost 9007199254740992 (betweenOf k l t)
 unfolding betweenOf
 between-most k l t f g =
-    let c = easedOf (k .easing) (clamp01Of ((t ⊖ k .time) ⊘ spanOf (l .time ⊖ k .time))) in
-    blend-most (k .value) (l .value) c (value-bound k f) (value-bound l g) (eased-most (k .easing) (clamp01Of ((t ⊖ k .time) ⊘ spanOf (l .time ⊖ k .time))))
+    let c = easedOf (k .easing) (alongOf (k .time) (l .time) t) in
+    blend-most (k .value) (l .value) c (value-bound k f) (value-bound l g) (eased-most (k .easing) (alongOf (k .time) (l .time) t))
 
 -- the time that is sampled: from 0 to the last time, or that time
 module _ (l : List Keyframe) (fine : framesOf l ≡ true) (some : 0 < length l) where
@@ -89,34 +85,27 @@ module _ (l : List Keyframe) (fine : framesOf l ≡ true) (some : 0 < length l) 
   last-clock = time-clock (lastOf l .time) (time-fine (lastOf l) (frame-fine (length l - 1) last-place))
 
   number-first : isNan (firstOf l .time) ≡ false
-  number-first = le-numbers zeroF (firstOf l .time) (first-clock .0) .1
+  number-first = time-number (firstOf l .time) (time-fine (firstOf l) (frame-fine 0 some))
 
   number-last : isNan (lastOf l .time) ≡ false
-  number-last = le-numbers zeroF (lastOf l .time) (last-clock .0) .1
-
-  first-last : T (le (firstOf l .time) (lastOf l .time))
-  first-last = go (length l - 1) last-place
-    where
-      go : (i : ℕ) → i < length l → T (le (firstOf l .time) (getD l i noFrame .time))
-      go zero h = le-self (firstOf l .time) number-first
-      go (suc i) h = lt-le (firstOf l .time) (getD l (suc i) noFrame .time) (rising beforeAll l fine 0 (suc i) (omega arith) h)
+  number-last = time-number (lastOf l .time) (time-fine (lastOf l) (frame-fine (length l - 1) last-place))
 
   -- the frames beside a time between the first and the last
   module _ (t : Float) (real : isNan t ≡ false) (a : le t (firstOf l .time) ≡ false) (z : le (lastOf l .time) t ≡ false) where
     first-passed : le (firstOf l .time) t ≡ true
     first-passed = is-true (le (firstOf l .time) t) (lt-le (firstOf l .time) t (lt-of-not-le t (firstOf l .time) real number-first a))
 
-    pub passed-low : 0 < passedOf t l
+    passed-low : 0 < passedOf t l
     passed-low = lead-some (λ (k : Keyframe). le (k .time) t) l some first-passed
 
-    pub passed-high : passedOf t l ≤ length l - 1
+    passed-high : passedOf t l ≤ length l - 1
     passed-high = lead-below (λ (k : Keyframe). le (k .time) t) l (length l - 1) last-place z
 
   cut-number : (secs : Float) → isNan (cutOf (maxZeroOf secs) (lastOf l .time)) ≡ false
-  cut-number secs = by-test (λ (x : Float). isNan x ≡ false) (lt (maxZeroOf secs) (lastOf l .time)) (maxZeroOf secs) (lastOf l .time) (λ _. le-numbers zeroF (maxZeroOf secs) (max-zero-up secs) .1) (λ _. number-last)
+  cut-number secs = by-test (λ (x : Float). isNan x ≡ false) (lt (maxZeroOf secs) (lastOf l .time)) (maxZeroOf secs) (lastOf l .time) (λ _. max-zero-number secs) (λ _. number-last)
 
   -- sampling answers are finite
-  pub sample-most : (secs : Float) → AtMost 9007199254740992 (sampleOf l secs)
+  sample-most : (secs : Float) → AtMost 9007199254740992 (sampleOf l secs)
   unfolding sampleOf
   sample-most secs =
       let t = cutOf (maxZeroOf secs) (lastOf l .time) in
@@ -161,5 +150,5 @@ module _ (l : List Keyframe) (fine : framesOf l ≡ true) (some : 0 < length l) 
       (λ e.
       let one : length l ≡ 1 → ⊥ = eqb-false (length l) 1 e in
       let b : 0 < length l - 1 = omega (arith, one, some) in
-      let f : le (lastOf l .time) (firstOf l .time) ≡ false = le-turned (lastOf l .time) (firstOf l .time) number-last number-first ∙ ap not (is-true (lt (firstOf l .time) (lastOf l .time)) (rising beforeAll l fine 0 (length l - 1) b last-place)) in
+      let f : le (lastOf l .time) (firstOf l .time) ≡ false = not-le-of-lt (firstOf l .time) (lastOf l .time) (rising beforeAll l fine 0 (length l - 1) b last-place) in
       rw (after-last secs h, f, is-true (le (lastOf l .time) (lastOf l .time)) (le-self (lastOf l .time) number-last)))

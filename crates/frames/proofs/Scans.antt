@@ -1,7 +1,7 @@
 -- A scan along the frames that keeps the last place with a time at or before t: at the end the next frame is the first that t does not pass. Assumes nothing.
 use Prim.Native.Nat.{ℕ, _+_, _-_, _<_, _≤_}
 use mathlib.Core.Path.{_≡_, refl, sym, _∙_}
-use mathlib.Core.Bool.{Bool, true, false, cond, false≢true}
+use mathlib.Core.Bool.{true, false, false≢true}
 use mathlib.Core.List.{List}
 use mathlib.Core.Logic.{_⊎_, inl, inr, ⊎-elim}
 use native.Mathlib.Nat.{eq-or-lt-of-le}
@@ -32,11 +32,8 @@ module _ (fs : List Keyframe) (t : Float) where
     scan-no e =
         record {
           at = ⊎-elim (λ (z : low ≡ 0). inl z) (λ (h : (low < i) × (le (getD fs low noFrame .time) t ≡ true)). inr (omega (arith, h .0), h .1)) (s .at);
-          past = λ j a b. ⊎-elim (λ (z : j ≡ i). rw z e) (λ (h : j < i). s .past j a h) (below j b);
+          past = λ j a b. ⊎-elim (λ (z : j ≡ i). rw z e) (λ (h : j < i). s .past j a h) (eq-or-lt-of-le {n = j} {m = i} (omega (arith, b)));
         }
-      where
-        below : (j : ℕ) → j < i + 1 → (j ≡ i) ⊎ (j < i)
-        below j b = eq-or-lt-of-le (omega (arith, b))
 
 -- what is picked beside the place that was found is the sample
 module _ (fs : List Keyframe) (n : ℕ) (some : 1 ≤ n) (fit : n ≤ length fs) (fine : framesOf (take n fs) ≡ true)

@@ -5,7 +5,7 @@ use mathlib.Core.List.{List, [], _∷_, _++_, map}
 use lib.Dec.{eqb}
 use lib.ListN.{length, drop, getD}
 use lib.Ieee.{Float, lt, le}
-use Rattle.math.specs.Rounded.{_⊖_, _⊘_, f32, zeroF}
+use Rattle.math.specs.Rounded.{_⊖_, _⊘_, zeroF, epsilonF}
 use Rattle.math.specs.Range.{clamp01Of, maxZeroOf}
 use Rattle.math.specs.Blend.{blendOf}
 use Rattle.easing.specs.declared.kinds.Easing.{Easing}
@@ -29,13 +29,9 @@ durationOf l = cond (eqb (length l) 0) zeroF (lastOf l .time)
 abbrev pub cutOf : Float → Float → Float
 cutOf x top = cond (lt x top) x top
 
--- 2 ^ -23
-abbrev pub epsilon : Float
-epsilon = f32 0x3400_0000
-
 -- "span at least 2^-23"
 abbrev pub spanOf : Float → Float
-spanOf d = cond (lt epsilon d) d epsilon
+spanOf d = cond (lt epsilonF d) d epsilonF
 
 -- a refusal counts as 0; no easing of a frame within limits refuses
 abbrev pub valueIn : Eased → Float

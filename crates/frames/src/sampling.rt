@@ -6,21 +6,18 @@ use easing::Eased;
 use easing::Easing;
 use units::Progress;
 
+// x, and top from there on; top where x is a NaN.
 pub fn cut(x: f32, top: f32) -> f32
     ensures { λ r. ⌜ r ≡ cutOf x top ⌝ }
 {
     if x < top { x } else { top }
 }
 
-// At least 2^-23, Rust's f32::EPSILON.
+// A span of d seconds, and of 2^-23 where d is less.
 pub fn span_of(d: f32) -> f32
     ensures { λ r. ⌜ r ≡ spanOf d ⌝ }
 {
-    if 0.00000011920929 < d {
-        d
-    } else {
-        0.00000011920929
-    }
+    if math::EPSILON < d { d } else { math::EPSILON }
 }
 
 // 0 where the easing refuses, which no easing of a frame within limits does.
@@ -40,6 +37,7 @@ pub fn along(from: f32, to: f32, t: f32) -> f32
     math::clamp01((t - from) / span_of(to - from))
 }
 
+// The blend at a t between the times of k and l.
 fn between(k: Keyframe, l: Keyframe, t: f32) -> f32
     ensures { λ r. ⌜ r ≡ betweenOf k l t ⌝ }
 {

@@ -35,7 +35,7 @@ reached-cut : (m : PassLimit) (F q : ℕ) → Reached m F → F ≤ q → (F ≡
 reached-cut (Passes n) F q o k = (omega arith, sym (le-leb n q (omega arith)))
 reached-cut Endless F q o k = absurd o
 
--- What is kept says what the demand asks, for any A: this too is general.
+-- what is kept says what the demand asks, for any A
 module _ (l : Loop) (D A F : ℕ) (some : 1 ≤ D) where
   abbrev Adds : TweenState → Tween → Type 0
   Adds st t = (F ≡ cutAt (limitOf l) (A / D)) × Is (t .elapsed) (cond (isCompleted st) D (A - D * F)) × (isCompleted st ≡ reaches (limitOf l) (A / D))
@@ -47,7 +47,7 @@ module _ (l : Loop) (D A F : ℕ) (some : 1 ≤ D) where
       let h = below-cut (limitOf l) F o in
       (h .0 ∙ ap (cutAt (limitOf l)) q, subst (λ (x : ℕ). Is (t .elapsed) x) r E, h .1 ∙ ap (reaches (limitOf l)) q)
 
-  pub adds : (W H : ℕ) (st : TweenState) (t : Tween) → At st l D W H A F t → Adds st t
+  adds : (W H : ℕ) (st : TweenState) (t : Tween) → At st l D W H A F t → Adds st t
   adds W H Idle t (w, k, E, a, f, o, c) = let z : D * F ≡ 0 = rw f (omega arith) in under-adds t 0 E (omega arith) (omega arith) o
   adds W H Running t (k, (e, E, a, d, o, c)) = under-adds t e E a d o
   adds W H Paused t (k, (e, E, a, d, o, c)) = under-adds t e E a d o

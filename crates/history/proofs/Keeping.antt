@@ -11,7 +11,7 @@ use Rattle.math.specs.Range.{maxZeroOf}
 use Rattle.math.specs.Whole.{Is}
 use Rattle.math.proofs.Choice.{by-test}
 use Rattle.math.proofs.Equals.{max-zero-is}
-use Rattle.math.proofs.Wholes.{zero-is, add-exact, sub-exact, mul-exact, lt-is, le-is, eq-is}
+use Rattle.math.proofs.Wholes.{whole-is, zero-is, add-exact, sub-exact, mul-exact, lt-is, le-is, eq-is}
 use Rattle.loop_mode.specs.declared.Loop.{Loop}
 use Rattle.loop_mode.specs.Passes.{limitOf}
 use Rattle.tween.specs.declared.record.Tween.{Tween}
@@ -27,7 +27,7 @@ use Rattle.tween.specs.Update.{beginAt, afterFolds, advanced, waiting, lostOf, 
 use Rattle.tween.proofs.Ways.{not-due, foldedFrom, by-advanced}
 use Rattle.history.specs.History.{whole, counts}
 use Rattle.history.proofs.Folding.{Below, Counted, FoldedTo, all-keep}
-use Rattle.history.proofs.Standing.{Under, At, Standing, moves-to, whole-32, duration-value, scale-value, delay-value, product-small}
+use Rattle.history.proofs.Standing.{Under, At, Standing, moves-to, duration-value, scale-value, delay-value, product-small}
 
 -- an answer to an update by n: from H, A and F it came to K, B and F with the folds reported, or, refused, nowhere
 abbrev pub Came : Loop → ℕ → ℕ → ℕ → ℕ → ℕ → ℕ → ℕ → ℕ → ℕ → Updated → Type 0
@@ -150,6 +150,6 @@ module _ (l : Loop) (D W s H A F n : ℕ) (t : Tween) (small : n ≤ 524288) (i 
   update-keeps =
       let K = H + cond (counts (t .state)) n 0 in
       let P : Updated → Type 0 = Came l D W s n H A F K (A + leftOver s W H K) in
-      let step-is : Is (whole n) n = whole-32 n (omega (arith, small)) in
+      let step-is : Is (whole n) n = whole-is binary32 n (omega (arith, small)) in
       by-test P (withinOf t) _ _
       (λ _. by-test P (lt topF (whole n)) _ _ (λ _. i) (λ _. by-state-keeps (maxZeroOf (whole n)) (max-zero-is (whole n) n step-is) (t .state) (i .at))) (λ _. i)

@@ -61,19 +61,16 @@ settings-stay now t D W s i =
 pub moves-to : (l : Loop) (D W s H A F K B G : ℕ) (t : Tween) (now : TweenSnapshot) → Standing l D W s H A F t → At (now .state) l D W K B G (put now t) → Standing l D W s K B G (put now t)
 moves-to l D W s H A F K B G t now i j = record { settings = settings-stay now t D W s (i .settings); looping-is = i .looping-is; at = j }
 
-pub whole-32 : (n : ℕ) → n ≤ 16777216 → Is (whole n) n
-whole-32 n h = whole-is binary32 n h
-
 -- the settings as numbers; a delay of 0 may be -0
 module _ (t : Tween) (D W s : ℕ) (i : Settings t D W s) where
   pub duration-value : Is (t .duration) D
-  duration-value = equal-is (t .duration) (whole D) D (whole-32 D (omega arith)) (i .duration-from) (i .duration-is)
+  duration-value = equal-is (t .duration) (whole D) D (whole-is binary32 D (omega arith)) (i .duration-from) (i .duration-is)
 
   pub scale-value : Is (t .«time_scale») s
-  scale-value = equal-is (t .«time_scale») (whole s) s (whole-32 s (omega arith)) (i .scale-from) (i .scale-is)
+  scale-value = equal-is (t .«time_scale») (whole s) s (whole-is binary32 s (omega arith)) (i .scale-from) (i .scale-is)
 
   pub delay-value : 1 ≤ W → Is (t .delay) W
-  delay-value h = equal-is (t .delay) (whole W) W (whole-32 W (omega arith)) h (i .delay-is)
+  delay-value h = equal-is (t .delay) (whole W) W (whole-is binary32 W (omega arith)) h (i .delay-is)
 
   pub product-small : (n : ℕ) → n ≤ 524288 → n * s ≤ 8388608
   product-small n h = mul-le-mul {n₁ = n} {m₁ = s} {n₂ = 524288} {m₂ = 16} h (i .scale-to)
@@ -129,7 +126,7 @@ module _ (t : Tween) (D W s : ℕ) (i : Settings t D W s) where
   begins : Begins (t .looping) D W s (resetOf t)
   unfolding resetOf
   begins =
-      let above = sym (equal-above (t .delay) (whole W) W (whole-32 W (omega (arith, i .delay-to))) (i .delay-is)) in
+      let above = sym (equal-above (t .delay) (whole W) W (whole-is binary32 W (omega (arith, i .delay-to))) (i .delay-is)) in
       by-test (Begins (t .looping) D W s) (withinOf t) _ _
       (λ _. record { settings = settings-stay (atStart t) t D W s i; looping-is = refl; at = started (lt zeroF (t .delay)) above }) (λ _. tt)
 

@@ -11,6 +11,7 @@ use lib.IntN.{pos}
 use lib.ListN.{length, take, drop}
 use lib.Seq.{take-at}
 use lib.Ieee.{Float, binary32, lt, le, eq, isNan, ofInt, ofBits}
+use denote.Floats.{passes as holds}
 use Rattle.math.specs.Whole.{Is}
 use Rattle.math.specs.Rounded.{_⊕_, _⊗_, zeroF, topF}
 use Rattle.math.specs.Range.{valueOf, clamp01Of, maxZeroOf}
@@ -33,8 +34,8 @@ use Rattle.frames.specs.declared.frame.Put.{Put}
 use Rattle.frames.specs.Sampling.{durationOf, lastOf}
 use Rattle.frames.specs.Pushing.{pushedOf, putOf}
 use Rattle.frames.proofs.Pushed.{pushed-fine, pushed-last}
-use Rattle.frames.proofs.Rising.{holds, each-fine, time-fine}
-use Rattle.frames.proofs.Tops.{Clock, clock-finite, clock-test, test-clock, time-clock, shrunk-clock}
+use Rattle.frames.proofs.Rising.{each-fine, time-fine}
+use Rattle.frames.proofs.Clocks.{Clock, clock-finite, clock-test, test-clock, time-clock, shrunk-clock}
 use Rattle.keyframe.specs.declared.types.Track.{Track}
 use Rattle.keyframe.specs.declared.types.Changed.{Changed}
 use Rattle.keyframe.specs.declared.types.Updated.{Updated}

@@ -11,7 +11,7 @@ use lib.Ieee.{Float, binary32, fits, lt, le, eq, ofBits}
 use Rattle.math.specs.Rounded.{_⊕_, zeroF, topF}
 use Rattle.math.specs.Range.{finiteOf, maxZeroOf}
 use Rattle.math.proofs.Choice.{by-test}
-use Rattle.math.proofs.Order.{not-lt-of-le}
+use Rattle.math.proofs.Order.{equal-le, not-lt-of-le}
 use Rattle.refusal.specs.declared.Refusal.{Refusal}
 use Rattle.refusal.specs.declared.Refusal.the-variants.{ElapsedTooLong, TrackFull}
 use Rattle.easing.specs.declared.kinds.Easing.{Easing}
@@ -21,7 +21,7 @@ use Rattle.frames.specs.Limits.{framesOf, beforeAll, noFrame}
 use Rattle.frames.specs.Sampling.{cutOf, lastOf, atOf, firstOf, sampleOf}
 use Rattle.frames.specs.Pushing.{pushedOf, putOf}
 use Rattle.frames.proofs.Rising.{rising}
-use Rattle.frames.proofs.Pushed.{eq-le, pushed-in}
+use Rattle.frames.proofs.Pushed.{pushed-in}
 use Rattle.frames.proofs.Samples.{sample-finite, sample-first, sample-last}
 use Rattle.frames.proofs.Owned.{sample-own}
 use Rattle.keyframe.specs.declared.types.Track.{Track}
@@ -51,7 +51,7 @@ stored-same l time = ap (λ (x : Float). cond (eqb (length l) 1) (firstOf l .val
   where
     maxed : (b : Bool) → eq time zeroF ≡ b → maxZeroOf (cond b zeroF time) ≡ maxZeroOf time
     maxed false e = refl
-    maxed true e = rw (not-lt-of-le time zeroF (eq-le time zeroF e), zero-below)
+    maxed true e = rw (not-lt-of-le time zeroF (equal-le time zeroF (subst⁻¹ T e tt)), zero-below)
 
 -- where a push is done, a sample at its time equals the value that was pushed
 abbrev Sampled : Float → Float → Changed → Type 0

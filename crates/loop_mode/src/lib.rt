@@ -13,6 +13,9 @@ pub enum Loop {
     PingPongTimes(u32),
 }
 
+// The largest pass number that a mode may hold.
+const MOST_PASSES: u32 = 65535;
+
 pub enum PassLimit {
     Passes(u32),
     Endless,
@@ -45,10 +48,10 @@ impl Loop {
     {
         match self {
             Loop::Once => true,
-            Loop::Times(n) => n <= 65535,
+            Loop::Times(n) => n <= MOST_PASSES,
             Loop::Forever => true,
             Loop::PingPong => true,
-            Loop::PingPongTimes(n) => n <= 65535,
+            Loop::PingPongTimes(n) => n <= MOST_PASSES,
         }
     }
 }

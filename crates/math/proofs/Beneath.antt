@@ -1,21 +1,18 @@
 -- What is not above a float: where that is a whole number n, what is at most n in size; where the format holds it, its product with a t from 0 to 1. Assumes nothing.
-use mathlib.Core.Path.{_≡_, refl, sym, ap, _∙_, subst⁻¹}
+use mathlib.Core.Path.{_≡_, refl, _∙_, subst⁻¹}
 use mathlib.Core.Bool.{Bool, true, false, true≢false}
-use Prim.Native.Nat.{ℕ, zero, suc, _+_, _-_, _*_, _^_, _<_, _≤_}
-use native.Mathlib.Nat.{mul-one, mul-assoc, mul-comm, mul-pos, mul-le-mul-right, zero-lt-suc, lt-of-lt-of-le, le-refl}
+use Prim.Native.Nat.{ℕ, _-_, _*_, _<_, _≤_}
+use native.Mathlib.Nat.{mul-comm, mul-pos, mul-le-mul-right, le-refl}
 use native.Mathlib.Omega.{arith}
-use lib.IntN.{ℤ, pos, negsuc}
-use lib.Pow.{pow-pos, pow-add, pow-mono, shl-lt}
+use lib.IntN.{pos}
 use lib.Dec.{T, le→leb}
-use lib.Ieee.{Float, nan, inf, fin, Format, binary32, prec, emax, low, up, down, unlike, round, mul, lt, le, eq, fits, ofInt, ofBits}
-use lib.Ieee.Fits.{reach, down-pos}
-use lib.Ieee.Exact.{HasValue, round-exact}
+use lib.Ieee.{Float, nan, inf, fin, binary32, up, down, unlike, round, mul, lt, le, eq, fits, ofBits}
+use lib.Ieee.Fits.{down-pos}
 use lib.Ieee.Order.{round-mono, le-of-values}
-use lib.Ieee.Scale.{round-same}
 use Rattle.math.specs.Whole.{Is}
 use Rattle.math.specs.Rounded.{zeroF, _⊗_}
 use Rattle.math.specs.Range.{finiteOf, Within, AtMost}
-use Rattle.math.proofs.Fitting.{few-digits, fine-grained, held, pow-at-most}
+use Rattle.math.proofs.Fitting.{rounds-none, round-held}
 use Rattle.math.proofs.Order.{le-sizes, le-chain, times-none}
 use Rattle.math.proofs.Upward.{Up, up-none}
 use Rattle.math.proofs.Wholes.{fraction-le}
@@ -31,32 +28,13 @@ at-most-le n (fin true m e) (inf t) v h = absurd v
 at-most-le n (fin true m e) (fin true k d) v h = absurd (true≢false (v .0))
 at-most-le n (fin true m e) (fin false k d) v h = subst⁻¹ T (le-sizes true false (m * up e * down d) (k * up d * down e)) tt
 
--- a value of the format rounds to itself
-module _ (f : Format) where
-  held-again : (m : ℕ) (e : ℤ) → T (fits f (fin false m e)) → HasValue (round f false (m * up e) (down e)) false (m * up e) (down e)
-  unfolding ofInt
-  held-again m (pos k) t = subst⁻¹ (λ (x : Float). HasValue x false (m * 2 ^ k) 1) (held f m k t) (refl, refl)
-  held-again zero (negsuc k) t = round-exact f false (0 * 1) (2 ^ suc k) 0 0 (pow-pos (suc k)) (pow-pos (prec f)) (pow-pos (low f + suc (emax f))) (none (2 ^ low f) (2 ^ suc k))
-    where
-      none : (a b : ℕ) → 0 * 1 * a ≡ 0 * 1 * b
-      none a b = omega arith
-  held-again (suc m) (negsuc k) t =
-      let j = low f - suc k in
-      let l : suc k ≤ low f = pow-at-most (suc k) (low f) (fine-grained f false m (negsuc k) t) in
-      let a : j + suc k ≡ low f = omega arith in
-      let b : suc (emax f) + j ≤ low f + suc (emax f) = omega arith in
-      let r : suc m < 2 ^ suc (emax f) = lt-of-lt-of-le (few-digits f false (suc m) (negsuc k) t) (pow-mono (reach f)) in
-      round-exact f false (suc m * 1) (2 ^ suc k) (suc m) j (pow-pos (suc k)) (few-digits f false (suc m) (negsuc k) t)
-      (lt-of-lt-of-le (shl-lt (suc (emax f)) j r) (pow-mono b))
-      (ap (λ (z : ℕ). z * 2 ^ low f) (mul-one (suc m)) ∙ ap (λ (z : ℕ). suc m * 2 ^ z) (sym a) ∙ ap (λ (z : ℕ). suc m * z) (pow-add 2 j (suc k)) ∙ sym (mul-assoc (suc m) (2 ^ j) (2 ^ suc k)))
-
 -- a product that is 0
 none-le : (s : Bool) (a c : ℕ) → a ≡ 0 → 0 < c → T (le (round binary32 s a c) zeroF)
-none-le s a c h C = subst⁻¹ (λ (z : Float). T (le z zeroF)) (round-same binary32 s a c 0 1 C (zero-lt-suc 0) (omega arith)) (go s)
+none-le s a c h C = subst⁻¹ (λ (z : Float). T (le z zeroF)) (rounds-none binary32 s a c h C) (go s)
   where
-    go : (s : Bool) → T (le (round binary32 s 0 1) zeroF)
-    go true = unfold round le lt eq ofBits in tt
-    go false = unfold round le lt eq ofBits in tt
+    go : (s : Bool) → T (le (fin s 0 (pos 0)) zeroF)
+    go true = unfold le lt eq ofBits in tt
+    go false = unfold le lt eq ofBits in tt
 
 pub share-le : (x y : Float) → Within x → T (fits binary32 y) → Up y → T (finiteOf y) → T (le (x ⊗ y) y)
 unfolding mul
@@ -73,7 +51,7 @@ share-le (fin false m e) (fin true n d) w t u p =
 share-le (fin false m e) (fin false n d) w t u p =
     le-chain (round binary32 false (m * up e * (n * up d)) (down e * down d)) (round binary32 false (n * up d) (down d)) (fin false n d)
     (round-mono binary32 (m * up e * (n * up d)) (down e * down d) (n * up d) (down d) (mul-pos (down-pos e) (down-pos d)) (down-pos d) (share (m * up e) (n * up d) (down e) (down d) (within-at-most (fin false m e) w)))
-    (le-of-values (round binary32 false (n * up d) (down d)) (fin false n d) (n * up d) (down d) (n * up d) (down d) (down-pos d) (down-pos d) (held-again binary32 n d t) (refl, refl) (le-refl (n * up d * down d)))
+    (le-of-values (round binary32 false (n * up d) (down d)) (fin false n d) (n * up d) (down d) (n * up d) (down d) (down-pos d) (down-pos d) (round-held binary32 false n d t) (refl, refl) (le-refl (n * up d * down d)))
   where
     share : (a b E D : ℕ) → a ≤ 1 * E → a * b * D ≤ b * (E * D)
     share a b E D h = omega (arith, mul-le-mul-right (b * D) h)

@@ -2,14 +2,13 @@
 use Prim.Native.Nat.{ℕ, _+_, _*_, _≤_, zero-le}
 use native.Mathlib.Nat.{le-of-eq, mul-one}
 use mathlib.Core.Path.{refl}
-use lib.IntN.{pos}
 use lib.Dec.{T, lit≤}
-use lib.Ieee.{Float, binary32, lt, le, eq, ofInt, ofBits}
+use lib.Ieee.{Float, binary32, lt, le, eq, ofBits}
 use Rattle.math.specs.Rounded.{_⊕_, _⊖_, _⊗_, _⊘_, zeroF, halfF, oneF, twoF, topF}
 use Rattle.math.specs.Range.{Within, valueOf, AtMost}
 use Rattle.math.specs.Whole.{Is}
 use Rattle.math.specs.Blend.{blendOf}
-use Rattle.math.proofs.Wholes.{whole-is}
+use Rattle.math.proofs.Wholes.{whole-is, power-is}
 use Rattle.math.proofs.Sizes.{AtLeast, size-at-most, add-at-most, sub-at-most, mul-at-most, div-at-most}
 
 module _ (n : ℕ) (small : n ≤ 16777216) (p q : ℕ) (x y : Float) where
@@ -65,32 +64,11 @@ pub top-is : Is topF 16777216
 unfolding ofBits
 top-is = (refl, refl)
 
--- powers of 2 beyond 2 ^ 24 that are f32s
-pub held-25 : Is (ofInt binary32 (pos 33554432)) 33554432
-unfolding ofInt
-held-25 = (refl, refl)
-
-pub held-26 : Is (ofInt binary32 (pos 67108864)) 67108864
-unfolding ofInt
-held-26 = (refl, refl)
-
-pub held-27 : Is (ofInt binary32 (pos 134217728)) 134217728
-unfolding ofInt
-held-27 = (refl, refl)
-
-held-52 : Is (ofInt binary32 (pos 4503599627370496)) 4503599627370496
-unfolding ofInt
-held-52 = (refl, refl)
-
-held-53 : Is (ofInt binary32 (pos 9007199254740992)) 9007199254740992
-unfolding ofInt
-held-53 = (refl, refl)
-
 pub value-most : (x : Float) → T (valueOf x) → AtMost 16777216 x
 value-most x h = size-at-most 16777216 x topF top-is h
 
 -- a blend of two values by a c up to 2 ^ 27
 pub blend-most : (a b c : Float) → AtMost 16777216 a → AtMost 16777216 b → AtMost 134217728 c → AtMost 9007199254740992 (blendOf a b c)
 blend-most a b c h k m =
-    add-at-most binary32 9007199254740992 held-53 16777216 4503599627370496 a ((b ⊖ a) ⊗ c) (lit≤ tt) h
-    (mul-at-most binary32 4503599627370496 held-52 33554432 134217728 (b ⊖ a) c (lit≤ tt) (sub-at-most binary32 33554432 held-25 16777216 16777216 b a (lit≤ tt) k h) m)
+    add-at-most binary32 9007199254740992 (power-is binary32 53 (lit≤ tt)) 16777216 4503599627370496 a ((b ⊖ a) ⊗ c) (lit≤ tt) h
+    (mul-at-most binary32 4503599627370496 (power-is binary32 52 (lit≤ tt)) 33554432 134217728 (b ⊖ a) c (lit≤ tt) (sub-at-most binary32 33554432 (power-is binary32 25 (lit≤ tt)) 16777216 16777216 b a (lit≤ tt) k h) m)

@@ -14,7 +14,7 @@ use lib.Ieee.Fits.{down-pos}
 use lib.Ieee.Exact.{HasValue}
 use lib.Ieee.Back.{round-whole}
 use Rattle.math.specs.Range.{AtMost}
-use Rattle.math.specs.Rounded.{zeroF, f32}
+use Rattle.math.specs.Rounded.{zeroF, topF}
 use Rattle.math.specs.Whole.{ceilOf, wholePartOf}
 use Rattle.math.proofs.Choice.{and-both, and-fails}
 use Rattle.math.proofs.Fitting.{no-size, held, no-fraction}
@@ -46,10 +46,6 @@ up-same a d D h =
     less : (d : ℕ) → 0 < d → d - 1 < d
     less d D = omega arith
 
--- 2 ^ 24, and less it
-abbrev whole-from : Float
-whole-from = f32 0x4b80_0000
-
 -- what `ceil` needs of an x between 0 and 2 ^ 24, and of its whole part w
 abbrev pub Above : Float → ℕ → Type 0
 Above x w = (w < 16777216) × (lt (ofInt binary32 (pos w)) x ≡ true → ofInt binary32 (pos (w + 1)) ≡ ceilOf x) × (lt (ofInt binary32 (pos w)) x ≡ false → ofInt binary32 (pos w) ≡ ceilOf x)
@@ -57,7 +53,7 @@ Above x w = (w < 16777216) × (lt (ofInt binary32 (pos w)) x ≡ true → ofInt 
 uncapped : (q : ℕ) → q < 16777216 → q ≡ min q 4294967295
 uncapped q h = omega arith
 
-pub above-zero : (x : Float) → lt zeroF x && lt x whole-from ≡ true → Above x (wholePartOf x)
+pub above-zero : (x : Float) → lt zeroF x && lt x topF ≡ true → Above x (wholePartOf x)
 unfolding lt toUnsigned ofInt ofBits
 above-zero nan h = absurd (false≢true h)
 above-zero (inf true) h = absurd (false≢true h)
@@ -76,12 +72,12 @@ above-zero (fin false m e) h =
     )
 
 -- an x between -2 ^ 24 and 0: the whole part of its size
-pub below-zero : (x : Float) → lt x zeroF && lt (neg whole-from) x ≡ true → neg (ofInt binary32 (pos (wholePartOf (neg x)))) ≡ ceilOf x
+pub below-zero : (x : Float) → lt x zeroF && lt (neg topF) x ≡ true → neg (ofInt binary32 (pos (wholePartOf (neg x)))) ≡ ceilOf x
 unfolding lt toUnsigned neg ofBits
 below-zero nan h = absurd (false≢true h)
 below-zero (inf true) h = absurd (false≢true h)
 below-zero (inf false) h = absurd (false≢true h)
-below-zero (fin false m e) h = absurd (none (m * up e * 1) (down e) (ltb-true (m * up e * 1) (0 * 1 * down e) (and-both (lt (fin false m e) zeroF) (lt (neg whole-from) (fin false m e)) h .0)))
+below-zero (fin false m e) h = absurd (none (m * up e * 1) (down e) (ltb-true (m * up e * 1) (0 * 1 * down e) (and-both (lt (fin false m e) zeroF) (lt (neg topF) (fin false m e)) h .0)))
   where
     none : (a d : ℕ) → a < 0 * 1 * d → ⊥
     none a d h = omega arith
@@ -103,7 +99,7 @@ finite-stays s m e t h =
 far : (a d : ℕ) → 1 * 16777216 * d ≤ a * 1 → 16777216 * d ≤ a
 far a d h = omega arith
 
-pub stays : (x : Float) → T (fits binary32 x) → lt zeroF x && lt x whole-from ≡ false → lt x zeroF && lt (neg whole-from) x ≡ false → x ≡ ceilOf x
+pub stays : (x : Float) → T (fits binary32 x) → lt zeroF x && lt x topF ≡ false → lt x zeroF && lt (neg topF) x ≡ false → x ≡ ceilOf x
 unfolding lt neg ofBits
 stays nan t h k = refl
 stays (inf s) t h k = refl

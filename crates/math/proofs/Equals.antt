@@ -13,7 +13,7 @@ use Rattle.math.specs.Rounded.{zeroF}
 use Rattle.math.specs.Range.{maxZeroOf}
 use Rattle.math.specs.Whole.{Is}
 use Rattle.math.proofs.Choice.{by-test}
-use Rattle.math.proofs.Order.{not-lt-of-le, le-chain, or-right}
+use Rattle.math.proofs.Order.{equal-le, not-lt-of-le, le-chain}
 use Rattle.math.proofs.Wholes.{zero-is, lt-is, le-is}
 
 -- from a / (E * D) = b / (E * D), where b / D is n, to a
@@ -43,10 +43,6 @@ equal-is (fin true m e) (fin false k d) n v l h =
     let a = m * up e * down d in
     let b = k * up d * down e in
     absurd (some-value (m * up e) (k * up d) n (down e) (down d) (down-pos d) (v .1) (eqb→eq a b (and-l (eqb a b) (eqb a 0) h)) l (down-pos e) (eqb→eq a 0 (and-r (eqb a b) (eqb a 0) h)))
-
-pub equal-le : (x y : Float) → T (eq x y) → T (le x y)
-unfolding le
-equal-le x y h = or-right (lt x y) (eq x y) h
 
 -- what equals a z that is n is above 0 exactly where n is
 pub equal-above : (x z : Float) (n : ℕ) → Is z n → T (eq x z) → lt zeroF x ≡ ltb 0 n

@@ -2,7 +2,7 @@
 use mathlib.Core.Path.{_≡_, refl}
 use lib.Ieee.{binary32, round, nan, inf, lt, neg, ofInt, toUnsigned, ofBits}
 use mathlib.Core.Bool.{false}
-use Rattle.math.specs.Rounded.{f32, zeroF, halfF, oneF, twoF}
+use Rattle.math.specs.Rounded.{f32, zeroF, halfF, oneF, twoF, topF, epsilonF}
 use Rattle.math.specs.Range.{clamp01Of, maxZeroOf, sizeOf}
 use Rattle.math.specs.Whole.{ceilOf, wholePartOf}
 
@@ -28,6 +28,11 @@ unfolding lt neg ofInt toUnsigned ofBits
 helpers = (refl, refl, refl, refl, refl, refl, refl, refl, refl, refl, refl, refl, refl, refl, refl, refl, refl)
 
 -- each shared constant is the f32 nearest to its decimal
-pub constants : (zeroF ≡ round binary32 false 0 1) × (halfF ≡ round binary32 false 5 10) × (oneF ≡ round binary32 false 1 1) × (twoF ≡ round binary32 false 2 1)
+pub constants : (zeroF ≡ round binary32 false 0 1)
+    × (halfF ≡ round binary32 false 5 10)
+    × (oneF ≡ round binary32 false 1 1)
+    × (twoF ≡ round binary32 false 2 1)
+    × (topF ≡ round binary32 false 16777216 1)
+    × (epsilonF ≡ round binary32 false 1 8388608)
 unfolding round ofBits
-constants = (refl, refl, refl, refl)
+constants = (refl, refl, refl, refl, refl, refl)

@@ -1,18 +1,18 @@
 -- What a test says of a float's form. Assumes nothing.
 use mathlib.Core.Path.{_≡_, refl, sym, ap, _∙_}
-use mathlib.Core.Bool.{true, false, and-true, _&&_, _||_, Bool·beq, true≢false, false≢true}
+use mathlib.Core.Bool.{true, false, and-true, _&&_, _||_, true≢false, false≢true}
 use Prim.Native.Nat.{ℕ, _+_, _*_, _≤_}
-use native.Mathlib.Nat.{mul-one, zero-mul}
+use native.Mathlib.Nat.{zero-mul}
 use native.Mathlib.Omega.{arith}
-use borrow.Author.Tests.{ltb-true, ltb-false, eqb-true, eq-eqb}
+use borrow.Author.Tests.{ltb-true, ltb-false, eq-eqb}
 use lib.IntN.{ℤ, pos}
 use lib.Dec.{T, leb, ltb, eqb}
 use lib.Ieee.{Float, nan, inf, fin, Format, up, down, lt, le, eq, ne, neg, fits, isNan, ofBits}
 use Rattle.math.specs.Rounded.{zeroF}
 use Rattle.math.specs.Range.{sizeOf, finiteOf, betweenOf}
-use Rattle.math.proofs.Choice.{and-both}
 use Rattle.math.proofs.Fitting.{no-size}
 use Rattle.math.proofs.Order.{le-sizes}
+use Rattle.math.proofs.Zeros.{equal-none}
 
 -- only a NaN differs from itself
 pub ne-self : (x : Float) → ne x x ≡ isNan x
@@ -51,7 +51,7 @@ unfolding eq ofBits
 size-zero f nan t h = absurd (false≢true h)
 size-zero f (inf s) t h = absurd (false≢true h)
 size-zero f (fin s m e) t h =
-    sym (zero-of (no-size f s m e t (sym (mul-one (m * up e)) ∙ eqb-true (m * up e * 1) (0 * 1 * down e) (and-both (eqb (m * up e * 1) (0 * 1 * down e)) (Bool·beq s false || eqb (m * up e * 1) 0) h .0) ∙ none (down e))))
+    sym (zero-of (no-size f s m e t (equal-none s m e h)))
   where
     zero-of : (m ≡ 0) × (e ≡ pos 0) → fin false m e ≡ fin false 0 (pos 0)
     zero-of z = λ i. fin false (z .0 i) (z .1 i)

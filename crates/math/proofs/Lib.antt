@@ -1,4 +1,5 @@
 pub mod Beneath
+pub mod Blends
 pub mod Bounded
 pub mod Ceiling
 pub mod Choice
@@ -14,3 +15,4 @@ pub mod Sizes
 pub mod Upward
 mod WholePart
 pub mod Wholes
+pub mod Zeros

@@ -1,17 +1,18 @@
 -- Which results are no NaN: a rounded fraction, a finite float less a float that is none, and the quotient of two finite floats of which the second is not a zero. Assumes nothing.
 use mathlib.Core.Path.{_≡_, refl, sym, ap, _∙_, subst, subst⁻¹}
-use mathlib.Core.Bool.{Bool, true, false, not, _&&_, _||_, Bool·beq, true≢false}
+use mathlib.Core.Bool.{Bool, true, false, not, _&&_, Bool·beq, true≢false}
 use Prim.Native.Nat.{ℕ, zero, suc, _+_, _-_, _*_, _^_}
 use native.Mathlib.Nat.{zero-mul, le-of-eq}
-use borrow.Author.Tests.{eqb-true}
-use lib.Dec.{T, ltb, eqb, eqb·suc-zero, le→leb}
+use native.Mathlib.Omega.{arith}
+use lib.Dec.{T, ltb, eqb·suc-zero, le→leb}
 use lib.Ieee.{Float, nan, inf, fin, Format, unlike, prec, emax, low, up, down, odd, units, round, sum, add, sub, div, neg, lt, le, eq, isNan, ofBits}
 use lib.Ieee.Fits.{round-is}
 use lib.Ieee.Order.{drop, kept}
 use Rattle.math.specs.Rounded.{zeroF}
 use Rattle.math.specs.Range.{sizeOf, finiteOf}
-use Rattle.math.proofs.Choice.{by-test, and-both}
+use Rattle.math.proofs.Choice.{by-test}
 use Rattle.math.proofs.Order.{le-sizes, le-lt-chain}
+use Rattle.math.proofs.Zeros.{equal-none}
 
 abbrev Number : Float → Type 0
 Number x = isNan x ≡ false
@@ -29,7 +30,7 @@ units-number : (f : Format) (s : Bool) (q k : ℕ) → isNan (units f s q k) ≡
 unfolding units
 units-number f s q k = by-test Number (ltb (q * 2 ^ k) (2 ^ (low f + suc (emax f)))) _ _ (λ _. odd-number (suc (prec f)) s q k (low f)) (λ _. inf-number s)
 
-pub round-number : (f : Format) (s : Bool) (a c : ℕ) → isNan (round f s a c) ≡ false
+round-number : (f : Format) (s : Bool) (a c : ℕ) → isNan (round f s a c) ≡ false
 round-number f s a c = ap isNan (round-is f s a c) ∙ units-number f s (kept (prec f) (a * 2 ^ low f) c) (drop (prec f) (a * 2 ^ low f) c)
 
 sum-number : (f : Format) (s : Bool) (a : ℕ) (t : Bool) (b c : ℕ) → isNan (sum f s a t b c) ≡ false
@@ -68,7 +69,7 @@ not-zero (fin s m e) limit p l h = go (eq (fin s m e) zeroF) refl
     go true k =
         let a = m * up e * 1 in
         let b = 0 * 1 * down e in
-        let none : a ≡ b = eqb-true a b (and-both (eqb a b) (Bool·beq s false || eqb a 0) k .0) in
+        let none : a ≡ b = omega (arith, equal-none s m e k) in
         absurd (subst T h (le-lt-chain (fin false m e) zeroF limit (subst⁻¹ T (le-sizes false false a b) (le→leb a b (le-of-eq none))) l))
 
 pub finite-number : (x : Float) → T (finiteOf x) → isNan x ≡ false

@@ -10,7 +10,7 @@ use lib.IntN.{ℤ}
 use lib.Dec.{T, not-T, leb, ltb, eqb, leb→le, le→leb, ltb→lt, lt→ltb, nltb→le, eqb→eq}
 use lib.Ieee.{Float, nan, inf, fin, up, down, below, level, lt, eq, le, isNan}
 use lib.Ieee.Fits.{down-pos, and-i, and-l, and-r, eq→eqb}
-use lib.Ieee.Bits.{is-false}
+use lib.Ieee.Bits.{is-true, is-false}
 use lib.Ieee.Positive.{through}
 
 -- two tests that imply each other are equal
@@ -28,7 +28,7 @@ or-left : (a b : Bool) → T a → T (a || b)
 or-left true b h = tt
 or-left false b h = absurd h
 
-pub or-right : (a b : Bool) → T b → T (a || b)
+or-right : (a b : Bool) → T b → T (a || b)
 or-right true b h = tt
 or-right false b h = h
 
@@ -92,7 +92,7 @@ le-sizes true false a b = same (ltb 0 (a + b) || (eqb a b && eqb a 0)) true (λ 
     go (inl h) = or-right (ltb 0 (a + b)) (eqb a b && eqb a 0) (and-i (eqb a b) (eqb a 0) (eq→eqb (level h)) (eq→eqb (none h)))
     go (inr h) = or-left (ltb 0 (a + b)) (eqb a b && eqb a 0) (lt→ltb 0 (a + b) h)
 
-pub not-lt-sizes : (s t : Bool) (a b : ℕ) → not (below t b s a) ≡ leq s a t b
+not-lt-sizes : (s t : Bool) (a b : ℕ) → not (below t b s a) ≡ leq s a t b
 not-lt-sizes false false a b = not-ltb a b
 not-lt-sizes true true a b = not-ltb b a
 not-lt-sizes false true a b = not-ltb (b + a) 0 ∙ ap (λ (n : ℕ). leb n 0) (add-comm b a)
@@ -129,10 +129,19 @@ pub lt-le : (x y : Float) → T (lt x y) → T (le x y)
 unfolding le
 lt-le x y h = or-left (lt x y) (eq x y) h
 
+pub equal-le : (x y : Float) → T (eq x y) → T (le x y)
+unfolding le
+equal-le x y h = or-right (lt x y) (eq x y) h
+
 pub not-lt-of-le : (x y : Float) → T (le x y) → lt y x ≡ false
 not-lt-of-le x y h =
     let n = le-numbers x y h in
     is-false (lt y x) (subst T (le-turned x y (n .0) (n .1)) h)
+
+pub not-le-of-lt : (x y : Float) → T (lt x y) → le y x ≡ false
+not-le-of-lt x y h =
+    let n = le-numbers x y (lt-le x y h) in
+    le-turned y x (n .1) (n .0) ∙ ap not (is-true (lt x y) h)
 
 -- what is not below is at least, and what is not at most is above
 pub le-of-not-lt : (x y : Float) → isNan x ≡ false → isNan y ≡ false → lt x y ≡ false → T (le y x)
@@ -162,12 +171,11 @@ eq-self (fin true m e) p = simp (eq-eqb (m * up e * down e) (m * up e * down e) 
 eq-self (fin false m e) p = simp (eq-eqb (m * up e * down e) (m * up e * down e) refl)
 
 pub lt-not-eq : (x y : Float) → T (lt x y) → eq y x ≡ false
-unfolding le
 lt-not-eq x y h = go (eq y x) refl
   where
     go : (b : Bool) → eq y x ≡ b → b ≡ false
     go false e = refl
-    go true e = absurd (subst T (not-lt-of-le y x (or-right (lt y x) (eq y x) (subst⁻¹ T e tt))) h)
+    go true e = absurd (subst T (not-lt-of-le y x (equal-le y x (subst⁻¹ T e tt))) h)
 
 -- chains. The fractions are a / p, b / q and c / r
 no-factor : (a r : ℕ) → 0 < r → a * r ≤ 0 → a ≡ 0

@@ -12,7 +12,7 @@ use lib.Ieee.Fits.{down-pos}
 use lib.Ieee.Order.{round-mono}
 use Rattle.math.specs.Whole.{Is}
 use Rattle.math.specs.Rounded.{_⊕_, _⊖_, _⊗_, zeroF, halfF, oneF, twoF}
-use Rattle.math.specs.Range.{clampOf, clamp01Of, Within, AtMost}
+use Rattle.math.specs.Range.{finiteOf, clampOf, clamp01Of, Within, AtMost}
 use Rattle.math.proofs.Choice.{by-test}
 use Rattle.math.proofs.Order.{le-sizes, not-lt-of-le, le-of-not-lt, le-numbers, le-self}
 use Rattle.math.proofs.Upward.{Up, up-none, sub-up, square-up}
@@ -49,6 +49,9 @@ one-held = whole-is binary32 1 (lit≤ tt)
 pub within-at-most : (x : Float) → Within x → AtMost 1 x
 within-at-most x w = up-to 1 x oneF one-is (w .0) (w .1)
 
+pub within-finite : (x : Float) → Within x → T (finiteOf x)
+within-finite x w = at-most-finite 1 x (within-at-most x w)
+
 pub at-most-within : (x : Float) → Up x → AtMost 1 x → Within x
 unfolding le lt eq ofBits
 at-most-within nan u h = absurd h
@@ -57,13 +60,13 @@ at-most-within (fin false m e) u h = (u, subst⁻¹ T (fraction-le oneF 1 m e on
 at-most-within (fin true m e) u h = (u, subst⁻¹ T (le-sizes true false (m * up e * 1) (1 * 1 * down e)) tt)
 
 -- 1 - y * y, which is what a square root is taken of
-pub square : (y : Float) → AtMost 1 y → Within (y ⊗ y)
+square : (y : Float) → AtMost 1 y → Within (y ⊗ y)
 square y h = at-most-within (y ⊗ y) (square-up binary32 y (at-most-finite 1 y h)) (mul-at-most binary32 1 one-held 1 1 y y (lit≤ tt) h h)
 
 pub rest : (z : Float) → Within z → Within (oneF ⊖ z)
 rest z w =
     let h = within-at-most z w in
-    at-most-within (oneF ⊖ z) (sub-up binary32 oneF z (at-most-finite 1 z h) (w .1)) (sub-near binary32 1 one-held oneF z (one-within .0) (w .0) (within-at-most oneF one-within) h)
+    at-most-within (oneF ⊖ z) (sub-up binary32 oneF z (within-finite z w) (w .1)) (sub-near binary32 1 one-held oneF z (one-within .0) (w .0) (within-at-most oneF one-within) h)
 
 pub under-root : (y : Float) → AtMost 1 y → Within (oneF ⊖ y ⊗ y)
 under-root y h = rest (y ⊗ y) (square y h)

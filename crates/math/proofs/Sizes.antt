@@ -17,6 +17,7 @@ use Rattle.math.specs.Whole.{Is}
 use Rattle.math.specs.Rounded.{zeroF, oneF}
 use Rattle.math.specs.Range.{finiteOf, sizeOf, AtMost}
 use Rattle.math.proofs.Choice.{by-test}
+use Rattle.math.proofs.Numbers.{finite-number}
 use Rattle.math.proofs.Order.{le-sizes, le-chain, times-none}
 use Rattle.math.proofs.Upward.{Up, up-none, none-of, round-up}
 use Rattle.math.proofs.Wholes.{zero-is, le-is, fraction-le, le-fraction}
@@ -27,10 +28,7 @@ at-most-finite n (inf s) h = absurd h
 at-most-finite n (fin s m e) h = tt
 
 pub at-most-number : (n : ℕ) (x : Float) → AtMost n x → isNan x ≡ false
-unfolding isNan
-at-most-number n nan h = absurd h
-at-most-number n (inf s) h = absurd h
-at-most-number n (fin s m e) h = refl
+at-most-number n x h = finite-number x (at-most-finite n x h)
 
 -- finite, and at least 1 / k in size
 abbrev pub AtLeast : ℕ → Float → Type 0
@@ -68,7 +66,7 @@ minus-low : (m : ℕ) (e : ℤ) → T (le (fin true m e) zeroF)
 unfolding le lt eq ofBits
 minus-low m e = subst⁻¹ T (le-sizes true false (m * up e * 1) (0 * 1 * down e)) tt
 
-pub from-one : (u x : Float) (n : ℕ) → Is u 1 → AtMost n x → T (le u x) → AtLeast 1 x
+from-one : (u x : Float) (n : ℕ) → Is u 1 → AtMost n x → T (le u x) → AtLeast 1 x
 from-one u nan n v h k = absurd h
 from-one u (inf s) n v h k = absurd h
 from-one u (fin false m e) n v h k = le-trans (le-of-eq (sym (one-mul (down e)))) (le-trans (leb→le (1 * down e) (m * up e) (subst T (le-fraction u 1 m e v) k)) (le-of-eq (sym (one-mul (m * up e)))))

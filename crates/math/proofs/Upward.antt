@@ -1,19 +1,19 @@
 -- Floats from 0 up. A rounded sum ±a ± b is from 0 up where -(±b) is at most ±a, a product where both factors are. Assumes nothing.
 use mathlib.Core.Path.{_≡_, refl, _∙_, subst, subst⁻¹}
-use mathlib.Core.Bool.{Bool, true, false, not, cond}
+use mathlib.Core.Bool.{Bool, true, false, not, cond, Bool·not-not}
 use Prim.Native.Nat.{ℕ, _+_, _-_, _*_, _<_, _≤_}
 use native.Mathlib.Nat.{mul-pos, mul-comm, zero-lt-suc}
 use native.Mathlib.Omega.{arith}
 use borrow.Author.Tests.{le-ltb}
-use lib.IntN.{ℤ}
+use lib.IntN.{ℤ, pos}
 use lib.Dec.{T, ltb, leb→le, le→leb}
-use lib.Ieee.{Float, nan, inf, fin, Format, binary32, binary64, up, down, round, sum, add, sub, mul, neg, lt, le, eq, ofBits}
+use lib.Ieee.{Float, nan, inf, fin, Format, up, down, round, sum, add, sub, mul, neg, lt, le, eq, isNan, ofBits}
 use lib.Ieee.Fits.{down-pos}
 use lib.Ieee.Order.{round-mono}
-use lib.Ieee.Scale.{round-same}
 use Rattle.math.specs.Rounded.{zeroF}
 use Rattle.math.specs.Range.{finiteOf, maxZeroOf}
-use Rattle.math.proofs.Order.{leq, le-sizes, lt-le, times-none}
+use Rattle.math.proofs.Fitting.{rounds-none}
+use Rattle.math.proofs.Order.{leq, le-sizes, le-numbers, lt-le, times-none}
 
 abbrev pub Up : Float → Type 0
 Up x = T (le zeroF x)
@@ -27,30 +27,26 @@ up-none m e h = none (m * up e) (down e) (leb→le (0 * 1 * down e + m * up e * 
     none a d h = omega arith
 
 -- rounded fractions
-zero-rounds : (f : Format) → round f false 0 1 ≡ zeroF
-unfolding round ofBits
-zero-rounds binary32 = refl
-zero-rounds binary64 = refl
+zero-up : Up zeroF
+unfolding le lt eq ofBits
+zero-up = tt
+
+minus-zero-up : Up (fin true 0 (pos 0))
+unfolding le lt eq ofBits
+minus-zero-up = tt
 
 pub round-up : (f : Format) (a c : ℕ) → 0 < c → Up (round f false a c)
-round-up f a c C = subst (λ (z : Float). T (le z (round f false a c))) (zero-rounds f) (round-mono f 0 1 a c (zero-lt-suc 0) C (least a c))
+unfolding ofBits
+round-up f a c C = subst (λ (z : Float). T (le z (round f false a c))) (rounds-none f false 0 1 refl (zero-lt-suc 0)) (round-mono f 0 1 a c (zero-lt-suc 0) C (least a c))
   where
     least : (a c : ℕ) → 0 * c ≤ a * 1
     least a c = omega arith
 
-minus-zero-up : (f : Format) → Up (round f true 0 1)
-unfolding round le lt eq ofBits
-minus-zero-up binary32 = tt
-minus-zero-up binary64 = tt
-
-pub round-none : (f : Format) (a c : ℕ) → a ≡ 0 → 0 < c → Up (round f true a c)
-round-none f a c h C = subst⁻¹ Up (round-same f true a c 0 1 C (zero-lt-suc 0) (none a c h)) (minus-zero-up f)
-  where
-    none : (a c : ℕ) → a ≡ 0 → a * 1 ≡ 0 * c
-    none a c h = omega arith
+round-none : (f : Format) (a c : ℕ) → a ≡ 0 → 0 < c → Up (round f true a c)
+round-none f a c h C = subst⁻¹ Up (rounds-none f true a c h C) minus-zero-up
 
 -- sums
-pub sum-up : (f : Format) (s : Bool) (a : ℕ) (t : Bool) (b c : ℕ) → 0 < c → T (leq (not t) b s a) → Up (sum f s a t b c)
+sum-up : (f : Format) (s : Bool) (a : ℕ) (t : Bool) (b c : ℕ) → 0 < c → T (leq (not t) b s a) → Up (sum f s a t b c)
 unfolding sum
 sum-up f false a false b c C h = round-up f (a + b) c C
 sum-up f true a true b c C h = round-none f (a + b) c (none (leb→le (b + a) 0 h)) C
@@ -89,10 +85,6 @@ add-up f (fin s m e) (fin t n d) h k =
     sum-up f s (m * up e * down d) t (n * up d * down e) (down e * down d) (mul-pos (down-pos e) (down-pos d))
     (either-sign s t (m * up e) (n * up d) (down d) (down e) (none-of s m e h) (none-of t n d k))
 
-not-not : (t : Bool) → not (not t) ≡ t
-not-not true = refl
-not-not false = refl
-
 -- x less a y that is at most x
 pub sub-up : (f : Format) (x y : Float) → T (finiteOf y) → T (le y x) → Up (sub f x y)
 unfolding sub neg add le lt eq ofBits
@@ -103,7 +95,7 @@ sub-up f (inf true) (fin t n d) p h = absurd h
 sub-up f (inf false) (fin t n d) p h = tt
 sub-up f (fin s m e) (fin t n d) p h =
     sum-up f s (m * up e * down d) (not t) (n * up d * down e) (down e * down d) (mul-pos (down-pos e) (down-pos d))
-    (subst⁻¹ (λ (u : Bool). T (leq u (n * up d * down e) s (m * up e * down d))) (not-not t)
+    (subst⁻¹ (λ (u : Bool). T (leq u (n * up d * down e) s (m * up e * down d))) (Bool·not-not t)
     (subst T (le-sizes t s (n * up d * down e) (m * up e * down d)) h))
 
 -- products
@@ -127,13 +119,12 @@ square-up f (fin true m e) p = round-up f (m * up e * (m * up e)) (down e * down
 square-up f (fin false m e) p = round-up f (m * up e * (m * up e)) (down e * down e) (mul-pos (down-pos e) (down-pos e))
 
 -- max with 0
-zero-up : Up zeroF
-unfolding le lt eq ofBits
-zero-up = tt
-
 pub max-zero-up : (x : Float) → Up (maxZeroOf x)
 max-zero-up x = go (lt zeroF x) refl
   where
     go : (b : Bool) → lt zeroF x ≡ b → Up (cond b x zeroF)
     go true h = lt-le zeroF x (subst⁻¹ T h tt)
     go false h = zero-up
+
+pub max-zero-number : (x : Float) → isNan (maxZeroOf x) ≡ false
+max-zero-number x = le-numbers zeroF (maxZeroOf x) (max-zero-up x) .1

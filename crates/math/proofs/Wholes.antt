@@ -1,16 +1,18 @@
--- Whole numbers as floats of a format. Up to 2 ^ prec each is a value of the format, and sums, differences, products and comparisons are the numbers' own. Assumes nothing.
+-- Whole numbers as floats of a format. Up to 2 ^ prec each is a value of the format, and so is every power of 2 in reach; sums, differences, products and comparisons are the numbers' own. Assumes nothing.
 use Prim.Native.Nat.{ℕ, _+_, _-_, _*_, _^_, _≤_, _<_}
-use native.Mathlib.Nat.{lt-irrefl, zero-mul, mul-assoc, mul-comm, mul-left-comm, mul-one, mul-right-comm, mul-pos, mul-le-mul-right, mul-lt-mul-of-pos-right, eq-of-mul-eq-mul-right}
+use native.Mathlib.Nat.{lt-irrefl, lt-of-lt-of-le, lt-of-le-of-lt, le-of-eq, zero-mul, one-mul, mul-assoc, mul-comm, mul-left-comm, mul-one, mul-right-comm, mul-pos, mul-le-mul-right, mul-lt-mul-of-pos-right, eq-of-mul-eq-mul-right}
 use native.Mathlib.Omega.{arith}
 use mathlib.Core.Path.{_≡_, refl, sym, ap, _∙_, subst, subst⁻¹}
 use mathlib.Core.Bool.{Bool, true, false, not, cond, true≢false, and-true}
 use lib.IntN.{ℤ, pos}
 use lib.Dec.{leb, ltb, eqb, lit<}
+use lib.Pow.{pow-add, pow-lt}
 use borrow.Author.Tests.{lt-ltb, le-ltb, eq-eqb, ne-eqb, ltb-true, ltb-false, eqb-true, eqb-false}
-use lib.Ieee.{Float, nan, inf, fin, Format, prec, up, down, round, sum, add, sub, mul, div, neg, lt, le, eq, isNan, ofInt, ofBits}
+use lib.Ieee.{Float, nan, inf, fin, Format, prec, emax, low, up, down, round, sum, add, sub, mul, div, neg, lt, le, eq, isNan, ofInt, ofBits}
+use lib.Ieee.Exact.{round-exact}
 use lib.Ieee.Scale.{round-same}
 use lib.Ieee.Back.{round-whole}
-use lib.Ieee.Fits.{down-pos}
+use lib.Ieee.Fits.{two, down-pos}
 use Rattle.math.specs.Rounded.{zeroF, oneF}
 use Rattle.math.specs.Whole.{Is}
 use Rattle.math.proofs.Order.{le-turned, not-ltb}
@@ -19,7 +21,15 @@ pub whole-is : (f : Format) (n : ℕ) → n ≤ 2 ^ prec f → Is (ofInt f (pos 
 unfolding ofInt
 whole-is f n h = round-whole f false n h
 
-pub is-number : (x : Float) (n : ℕ) → Is x n → isNan x ≡ false
+-- and so is every power of 2 in the format's reach
+pub power-is : (f : Format) (k : ℕ) → k ≤ emax f → Is (ofInt f (pos (2 ^ k))) (2 ^ k)
+unfolding ofInt
+power-is f k h =
+    round-exact f false (2 ^ k) 1 1 (k + low f) (lit< tt) (pow-lt {i = 0} (lt-of-lt-of-le (lit< tt) (two f)))
+    (lt-of-le-of-lt (le-of-eq (one-mul (2 ^ (k + low f)))) (pow-lt (omega arith)))
+    (sym (pow-add 2 k (low f)) ∙ sym (mul-one (1 * 2 ^ (k + low f)) ∙ one-mul (2 ^ (k + low f))))
+
+is-number : (x : Float) (n : ℕ) → Is x n → isNan x ≡ false
 unfolding isNan
 is-number nan n v = absurd v
 is-number (inf s) n v = refl
@@ -84,7 +94,7 @@ by-form a b C h (fin false m e) (fin true n d) v w = absurd (true≢false (w .0)
 by-form a b C h (fin false m e) (fin false n d) v w = h m e n d (sym (mul-one (m * up e)) ∙ v .1) (sym (mul-one (n * up d)) ∙ w .1)
 
 module _ (f : Format) (x y : Float) (a b : ℕ) (v : Is x a) (w : Is y b) where
-  pub add-is : add f x y ≡ ofInt f (pos (a + b))
+  add-is : add f x y ≡ ofInt f (pos (a + b))
   unfolding add sum ofInt
   add-is =
       by-form a b (λ x y. add f x y ≡ ofInt f (pos (a + b)))
@@ -92,7 +102,7 @@ module _ (f : Format) (x y : Float) (a b : ℕ) (v : Is x a) (w : Is y b) where
       (plus (m * up e * down d) (n * up d * down e) a b (down e * down d) (cross (m * up e) a (down e) (down d) p) (cross-right (n * up d) b (down e) (down d) q)))
       x y v w
 
-  pub sub-is : b ≤ a → sub f x y ≡ ofInt f (pos (a - b))
+  sub-is : b ≤ a → sub f x y ≡ ofInt f (pos (a - b))
   unfolding sub neg add sum ofInt
   sub-is l =
       by-form a b (λ x y. sub f x y ≡ ofInt f (pos (a - b)))
@@ -106,7 +116,7 @@ module _ (f : Format) (x y : Float) (a b : ℕ) (v : Is x a) (w : Is y b) where
       ∙ round-same f false (A - B) c (a - b) 1 (mul-pos (down-pos e) (down-pos d)) (lit< tt) (less A B a b c P Q l))
       x y v w
 
-  pub mul-is : mul f x y ≡ ofInt f (pos (a * b))
+  mul-is : mul f x y ≡ ofInt f (pos (a * b))
   unfolding mul ofInt
   mul-is =
       by-form a b (λ x y. mul f x y ≡ ofInt f (pos (a * b)))
@@ -170,7 +180,7 @@ module _ (x : Float) (a m : ℕ) (e : ℤ) (v : Is x a) where
       go (fin true n d) v = absurd (true≢false (v .0))
       go (fin false n d) v = ltb-scaled (n * up d * down e) (m * up e * down d) (a * down e) (m * up e) (down d) (size-is n d (v .1)) refl (down-pos d)
 
-  pub fraction-lt : lt (fin false m e) x ≡ ltb (m * up e) (a * down e)
+  fraction-lt : lt (fin false m e) x ≡ ltb (m * up e) (a * down e)
   unfolding lt
   fraction-lt = go x v
     where

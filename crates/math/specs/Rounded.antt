@@ -39,3 +39,7 @@ twoF = f32 0x4000_0000
 -- 16,777,216
 abbrev pub topF : Float
 topF = f32 0x4b80_0000
+
+-- 2 ^ -23, Rust's f32::EPSILON
+abbrev pub epsilonF : Float
+epsilonF = f32 0x3400_0000

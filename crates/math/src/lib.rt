@@ -1,13 +1,14 @@
 // Helpers on one f32, which every layer leans on.
-mod between;
+mod blending;
 mod class;
 mod range;
 mod whole;
 
-pub use between::blend;
+pub use blending::blend;
 pub use class::infinity;
 pub use class::is_finite;
 pub use class::is_nan;
+pub use range::EPSILON;
 pub use range::clamp;
 pub use range::clamp01;
 pub use range::is_between;

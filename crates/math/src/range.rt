@@ -2,6 +2,9 @@
 ghost use mathlib.Core.Path.{_≡_};
 ghost use Rattle.math.specs.Range.{clampOf, clamp01Of, maxZeroOf, sizeOf, valueOf, betweenOf};
 
+// 2^-23, Rust's f32::EPSILON.
+pub const EPSILON: f32 = 0.00000011920928955078125;
+
 // Rust's f32::clamp, which panics where lo is above hi or either is a NaN; here lo is then tested first.
 pub fn clamp(x: f32, lo: f32, hi: f32) -> f32
     ensures { λ r. ⌜ r ≡ clampOf x lo hi ⌝ }

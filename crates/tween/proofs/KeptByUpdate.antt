@@ -11,7 +11,8 @@ use Rattle.math.proofs.Choice.{by-test}
 use Rattle.math.proofs.Order.{le-numbers, lt-le, le-self, le-chain, le-of-not-lt, lt-of-not-le}
 use Rattle.math.proofs.Upward.{Up, add-up, sub-up, mul-up, max-zero-up}
 use Rattle.math.proofs.Sizes.{at-most-finite, at-most-number, at-most-more, up-to, add-at-most, sub-near}
-use Rattle.math.proofs.Bounded.{zero-most, zero-within, top-is, held-25}
+use Rattle.math.proofs.Bounded.{zero-most, zero-within, top-is}
+use Rattle.math.proofs.Wholes.{power-is}
 use Rattle.math.proofs.Beneath.{at-most-le}
 use Rattle.loop_mode.specs.declared.Loop.{Loop}
 use Rattle.tween.specs.declared.record.Tween.{Tween}
@@ -101,7 +102,7 @@ module _ (t : Tween) (i : Limits t) where
         let w = v ⊕ x in
         let dm : AtMost 16777216 d = up-to 16777216 d topF top-is (i .delay-up) (i .delay-to) in
         let vm : AtMost 16777216 v = up-to 16777216 v topF top-is (i .waited-up) (le-chain v d topF (lt-le v d l) (i .delay-to)) in
-        let wm : AtMost 33554432 w = add-at-most binary32 33554432 held-25 16777216 16777216 v x (lit≤ tt) vm step-most in
+        let wm : AtMost 33554432 w = add-at-most binary32 33554432 (power-is binary32 25 (lit≤ tt)) 16777216 16777216 v x (lit≤ tt) vm step-most in
         let wu : Up w = add-up binary32 v x (i .waited-up) low in
         let wb : T (betweenOf zeroF topWait w) = between zeroF topWait w wu (at-most-le 33554432 w topWait top-wait-is wm) in
         by-test Fine (lostOf Idle t x w) _ _ (λ _. tt)
@@ -113,7 +114,7 @@ module _ (t : Tween) (i : Limits t) where
         (λ g.
         let r = w ⊖ d in
         let over : T (le d w) = le-of-not-lt w d (at-most-number 33554432 w wm) (at-most-number 16777216 d dm) g in
-        let rm : AtMost 33554432 r = sub-near binary32 33554432 held-25 w d wu (i .delay-up) wm (at-most-more 16777216 33554432 d (lit≤ tt) dm) in
+        let rm : AtMost 33554432 r = sub-near binary32 33554432 (power-is binary32 25 (lit≤ tt)) w d wu (i .delay-up) wm (at-most-more 16777216 33554432 d (lit≤ tt) dm) in
         advanced-fine w (t .elapsed ⊕ r ⊗ t .«time_scale») wb (sum-up r (at-most-finite 33554432 r rm) (sub-up binary32 w d (at-most-finite 16777216 d dm) over))))
 
     as-it-is : Fine (updated.Ran t 0 true)

@@ -10,6 +10,7 @@ use lib.ListN.{length, length-append, length-map, take, drop, getD, List·getD-a
 use lib.Seq.{length-take-le, getD-take}
 use lib.Ieee.{Float, lt, le}
 use borrow.Author.Tests.{lt-ltb}
+use denote.Floats.{passes as holds}
 use Rattle.math.specs.Rounded.{zeroF, topF}
 use Rattle.math.specs.Range.{valueOf, maxZeroOf}
 use Rattle.math.proofs.Choice.{and-both}
@@ -19,9 +20,9 @@ use Rattle.easing.specs.Apply.{fitsRecordOf}
 use Rattle.frames.specs.declared.frame.Keyframe.{Keyframe}
 use Rattle.frames.specs.Limits.{timeOf, frameOf, framesAfter, framesOf, beforeAll, noFrame}
 use Rattle.frames.specs.Sampling.{cutOf, betweenOf, pickOf, sampleOf}
-use Rattle.frames.proofs.Rising.{holds, time-top}
+use Rattle.frames.proofs.Rising.{time-top}
 use Rattle.frames.proofs.Scans.{Scanned, scan-none, scan-inside, scan-picked}
-use Rattle.frames.proofs.Tops.{time-clock, later-time}
+use Rattle.frames.proofs.Clocks.{time-clock, later-time}
 use Rattle.keyframe.specs.Limits.{clockFits, withinOf}
 use Rattle.keyframe.specs.Sampling.{valueAtOf}
 use Rattle.keyframe.proofs.Records.{after-step, after-end, last-time, clocked}

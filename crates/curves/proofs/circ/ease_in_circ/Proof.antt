@@ -8,7 +8,7 @@ use Rattle.curves.proofs.circ.ease_in_circ.Tie as tie
 
 returns : tie.Need-returns
 unfolding inCirc
-returns c = ap (λ r. oneF ⊖ r) (c .arc .ensures)
+returns c = ap (λ r. oneF ⊖ r) (c .circle .ensures)
 
 pub ease-in-circ-spec : {M : Type 1} → statement M
 ease-in-circ-spec = tie.close (tie.spec (λ c κs. under-root (c .args .t) (within-at-most (c .args .t) (c .pre))) returns)

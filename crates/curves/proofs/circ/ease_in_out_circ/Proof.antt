@@ -6,11 +6,11 @@ use Rattle.curves.proofs.circ.ease_in_out_circ.Tie as tie
 
 below : tie.Need-returns
 unfolding inOutCirc
-below c = rw (c .before .if1 .taken, c .arc .ensures)
+below c = rw (c .before .if1 .taken, c .circle .ensures)
 
 above : tie.Need-returns-2
 unfolding inOutCirc
-above c = rw (c .before .if1 .left, c .arc2 .ensures)
+above c = rw (c .before .if1 .left, c .circle2 .ensures)
 
 pub ease-in-out-circ-spec : {M : Type 1} → statement M
 ease-in-out-circ-spec =

@@ -6,7 +6,7 @@ use mathlib.Core.Bool.{not}
 use mathlib.Core.List.{List, [], _∷_}
 use mathlib.Core.Path.{sym}
 use Rattle.easing.specs.Params.{paramsOf}
-use Rattle.easing.proofs.Tags.{among, four, told, numbered}
+use Rattle.easing.proofs.Tags.{among, four, told, by-tag}
 use Rattle.easing.proofs.params.params_of.Statement.{statement}
 use Rattle.easing.proofs.params.params_of.Tie as tie
 
@@ -26,4 +26,4 @@ params-of-spec =
     (λ c. simp (c .before .e2 .given .1))
     (λ c. simp (c .before .e3 .given .1))
     (λ c. simp (c .before .e4 .given .1))
-    (λ c. sym (told (c .before .args .e) .plain (not-true _ (numbered (λ n. not (among four n)) others (c .before .args .e) tt (c .match .keys5))))))
+    (λ c. sym (told (c .before .args .e) .plain (not-true _ (by-tag (λ n. not (among four n)) others (c .before .args .e) tt (c .match .keys5))))))

@@ -1,6 +1,6 @@
 -- `is_time` meets its contract. That a zero has one form of either sign rests on t being a value of binary32. Assumes nothing.
 use denote.Floats.{passes}
-use Rattle.frames.proofs.Zeros.{number, at-zero, off-zero}
+use Rattle.frames.proofs.Times.{number, at-zero, off-zero}
 use Rattle.frames.proofs.limits.is_time.Statement.{statement}
 use Rattle.frames.proofs.limits.is_time.Tie as tie
 

@@ -5,7 +5,7 @@ use Prim.Native.Nat.{ℕ}
 use mathlib.Core.Bool.{false, not}
 use mathlib.Core.List.{List, [], _∷_}
 use mathlib.Core.Path.{_≡_}
-use Rattle.easing.proofs.Tags.{among, numbered}
+use Rattle.easing.proofs.Tags.{among, by-tag}
 use Rattle.easing.specs.Kinds.{numberOf}
 use Rattle.words.specs.Kinds.{easingWords}
 use Rattle.words.proofs.Plain.{seven, plain-words}
@@ -37,5 +37,5 @@ easing-words-spec =
     (λ c. simp (c .before .before .before .bare .ensures, c .before .before .before .before .kind-number .ensures, c .before .e6 .given .1))
     (λ c. simp (c .before .before .before .bare .ensures, c .before .before .before .before .kind-number .ensures, c .before .e7 .given .1))
     (λ c.
-    let plain : among seven (numberOf (c .before .before .before .args .e)) ≡ false = not-true _ (numbered (λ n. not (among seven n)) others (c .before .before .before .args .e) tt (c .match .keys8)) in
+    let plain : among seven (numberOf (c .before .before .before .args .e)) ≡ false = not-true _ (by-tag (λ n. not (among seven n)) others (c .before .before .before .args .e) tt (c .match .keys8)) in
     simp (c .before .bare .ensures, c .before .before .kind-number .ensures, plain-words (c .before .before .before .args .e) plain)))

@@ -3,7 +3,7 @@ use Prim.Native.Nat.{ℕ}
 use mathlib.Core.Bool.{not}
 use mathlib.Core.List.{List, [], _∷_}
 use mathlib.Core.Path.{sym, _∙_, ap}
-use Rattle.easing.proofs.Tags.{among, twelve, told, numbered}
+use Rattle.easing.proofs.Tags.{among, twelve, told, by-tag}
 use Rattle.easing.proofs.kinds.Easing.is_supplied.Statement.{statement}
 use Rattle.easing.proofs.kinds.Easing.is_supplied.Tie as tie
 
@@ -14,5 +14,5 @@ pub is-supplied-spec : {M : Type 1} → statement M
 is-supplied-spec =
     tie.close
     (tie.spec
-    (λ c. sym (told (c .before .args .self) .supplied ∙ ap not (numbered (among twelve) twelve (c .before .args .self) tt (c .match .keys1))))
-    (λ c. sym (told (c .before .args .self) .supplied ∙ numbered (λ n. not (among twelve n)) others (c .before .args .self) tt (c .match .keys2))))
+    (λ c. sym (told (c .before .args .self) .supplied ∙ ap not (by-tag (among twelve) twelve (c .before .args .self) tt (c .match .keys1))))
+    (λ c. sym (told (c .before .args .self) .supplied ∙ by-tag (λ n. not (among twelve n)) others (c .before .args .self) tt (c .match .keys2))))

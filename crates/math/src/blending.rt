@@ -1,4 +1,4 @@
-// Between two values.
+// The blend of two values.
 ghost use mathlib.Core.Path.{_≡_};
 ghost use Rattle.math.specs.Blend.{blendOf};
 

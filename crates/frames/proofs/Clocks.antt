@@ -6,6 +6,7 @@ use native.Mathlib.Omega.{arith}
 use lib.Dec.{T, lit≤, le→leb}
 use lib.Ieee.{Float, nan, inf, fin, binary32, up, down, lt, le, eq, ofBits}
 use lib.Ieee.Bits.{is-true}
+use denote.Floats.{passes as holds}
 use Rattle.math.specs.Rounded.{_⊗_, zeroF, topF}
 use Rattle.math.specs.Range.{finiteOf, betweenOf, Within, AtMost}
 use Rattle.math.proofs.Choice.{and-both}
@@ -13,9 +14,9 @@ use Rattle.math.proofs.Order.{le-sizes, le-lt-chain}
 use Rattle.math.proofs.Upward.{Up, mul-up}
 use Rattle.math.proofs.Sizes.{up-to, at-most-finite}
 use Rattle.math.proofs.Bounded.{shrunk, top-is}
-use Rattle.math.proofs.Ranges.{within-at-most}
+use Rattle.math.proofs.Ranges.{within-at-most, within-finite}
 use Rattle.frames.specs.Limits.{plusOf, timeOf}
-use Rattle.frames.proofs.Rising.{holds, time-top}
+use Rattle.frames.proofs.Rising.{time-top}
 use Rattle.math.proofs.Beneath.{at-most-le}
 
 -- from 0 to 16,777,216
@@ -38,7 +39,7 @@ test-clock x h =
     (holds (le zeroF x) (b .0), holds (le x topF) (b .1))
 
 -- a frame's time
-pub plus-up : (x : Float) → plusOf x ≡ true → T (le x topF) → Up x
+plus-up : (x : Float) → plusOf x ≡ true → T (le x topF) → Up x
 unfolding le lt eq ofBits
 plus-up nan p h = absurd h
 plus-up (inf true) p h = absurd (holds false p)
@@ -69,5 +70,5 @@ later-time p t u h m = rw (plus-above t (le-lt-chain zeroF p t u h), is-true (le
 -- a part of it
 pub shrunk-clock : (x p : Float) → Clock x → Within p → Clock (x ⊗ p)
 shrunk-clock x p c w =
-    let u = mul-up binary32 x p (clock-finite x c) (at-most-finite 1 p (within-at-most p w)) (c .0) (w .0) in
+    let u = mul-up binary32 x p (clock-finite x c) (within-finite p w) (c .0) (w .0) in
     (u, at-most-le 16777216 (x ⊗ p) topF top-is (shrunk 16777216 (lit≤ tt) x p (clock-most x c) (within-at-most p w)))

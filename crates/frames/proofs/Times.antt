@@ -1,17 +1,17 @@
 -- The times of frames: which zero is one, and which other floats are. Assumes nothing.
 use mathlib.Core.Path.{_≡_, refl, sym, ap, _∙_}
-use mathlib.Core.Bool.{Bool, true, false, not, _&&_, _||_, Bool·beq, true≢false}
+use mathlib.Core.Bool.{Bool, true, false, not, _&&_, true≢false}
 use Prim.Native.Nat.{_*_, _<_}
 use native.Mathlib.Nat.{eq-zero-or-pos}
 use native.Mathlib.Omega.{arith}
 use mathlib.Core.Logic.{⊎-elim}
-use borrow.Author.Tests.{eqb-true, eq-eqb, lt-ltb}
+use borrow.Author.Tests.{lt-ltb}
 use lib.IntN.{pos}
 use lib.Dec.{T, eqb}
 use lib.Ieee.{Float, nan, inf, fin, binary32, fits, up, down, lt, le, eq, isNan, ofBits, toBits, size}
 use Rattle.math.specs.Rounded.{zeroF, topF}
-use Rattle.math.proofs.Choice.{and-both}
 use Rattle.math.proofs.Fitting.{no-size}
+use Rattle.math.proofs.Zeros.{equal-none, none-equal}
 use Rattle.frames.specs.Limits.{plusOf, timeOf}
 
 -- what equals 0 is a number
@@ -32,10 +32,7 @@ at-zero nan f h = absurd (true≢false (sym h))
 at-zero (inf true) f h = absurd (true≢false (sym h))
 at-zero (inf false) f h = absurd (true≢false (sym h))
 at-zero (fin s m e) f h =
-    let a = m * up e * 1 in
-    let b = 0 * 1 * down e in
-    let none : m * up e ≡ 0 = omega (arith, eqb-true a b (and-both (eqb a b) (Bool·beq s false || eqb a 0) h .0)) in
-    let z = no-size binary32 s m e f none in
+    let z = no-size binary32 s m e f (equal-none s m e h) in
     rw (z .0, z .1) (zero-form s)
 
 pub off-zero : (t : Float) → eq t zeroF ≡ false → lt zeroF t && le t topF ≡ timeOf t
@@ -45,10 +42,7 @@ off-zero (inf true) h = refl
 off-zero (inf false) h = refl
 off-zero (fin true m e) h = refl
 off-zero (fin false m e) h =
-    ⊎-elim (λ z. absurd (true≢false (sym (level z) ∙ h))) (λ z. ap (λ (b : Bool). b && le (fin false m e) topF) (above z)) (eq-zero-or-pos (m * up e))
+    ⊎-elim (λ z. absurd (true≢false (sym (none-equal false m e z) ∙ h))) (λ z. ap (λ (b : Bool). b && le (fin false m e) topF) (above z)) (eq-zero-or-pos (m * up e))
   where
-    level : m * up e ≡ 0 → eq (fin false m e) zeroF ≡ true
-    level z = simp (eq-eqb (m * up e * 1) (0 * 1 * down e) (omega arith))
-
     above : 0 < m * up e → lt zeroF (fin false m e) ≡ true
     above z = lt-ltb (0 * 1 * down e) (m * up e * 1) (omega arith)
