@@ -4,7 +4,7 @@ use mathlib.Core.Bool.{Bool, true, false, cond}
 use native.Mathlib.Omega.{arith}
 use lib.Dec.{T}
 use lib.Ieee.{Float}
-use Rattle.math.specs.Range.{finiteOf, Within, AtMost}
+use Rattle.math.specs.Range.{isFinite, Within, AtMost}
 use Rattle.math.proofs.Sizes.{at-most-more}
 use Rattle.math.proofs.Ranges.{within-at-most}
 use Rattle.bezier.specs.Curve.{sampleCubicOf}
@@ -12,7 +12,7 @@ use Rattle.bezier.specs.Bezier.{atEnd, foundOf, cubicBezier}
 use Rattle.bezier.proofs.Bounds.{sample-at-most}
 use Rattle.bezier.proofs.Inside.{found-within}
 
-pub answer-at-most : (p : ℕ) → 3 + 57 * p ≤ 16777216 → (t x1 y1 x2 y2 : Float) → Within t → T (finiteOf x1) → T (finiteOf x2) → AtMost p y1 → AtMost p y2 → AtMost (1 + 24 * p) (cubicBezier t x1 y1 x2 y2)
+pub answer-at-most : (p : ℕ) → 3 + 57 * p ≤ 16777216 → (t x1 y1 x2 y2 : Float) → Within t → T (isFinite x1) → T (isFinite x2) → AtMost p y1 → AtMost p y2 → AtMost (1 + 24 * p) (cubicBezier t x1 y1 x2 y2)
 unfolding cubicBezier
 answer-at-most p room t x1 y1 x2 y2 w f1 f2 h1 h2 = go (atEnd t)
   where

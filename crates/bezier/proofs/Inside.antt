@@ -8,7 +8,7 @@ use lib.Dec.{T, lit≤}
 use lib.Ieee.{Float, nan, inf, fin, binary32, unlike, up, down, mul, lt, ofBits}
 use lib.Ieee.Fits.{down-pos}
 use Rattle.math.specs.Rounded.{_⊕_, _⊖_, _⊗_, _⊘_, zeroF, halfF}
-use Rattle.math.specs.Range.{clamp01Of, sizeOf, finiteOf, Within, AtMost}
+use Rattle.math.specs.Range.{clamp01Of, sizeOf, isFinite, Within, AtMost}
 use Rattle.math.proofs.Bounded.{plus, less, zero-within, half-within, one-within}
 use Rattle.math.proofs.Numbers.{finite-number, sub-number, div-number, not-zero}
 use Rattle.math.proofs.Upward.{add-up, mul-up}
@@ -83,7 +83,7 @@ module _ (x1 x2 t : Float) (w1 : Within x1) (w2 : Within x2) (wt : Within t) whe
           let s : AtMost 25 (sampleCubicOf x1 x2 u) = sample-at-most 1 (lit≤ tt) x1 x2 u (within-at-most x1 w1) (within-at-most x2 w2) (within-at-most u w) in
           let m : AtMost 26 x = less 26 (lit≤ tt) 25 1 (sampleCubicOf x1 x2 u) t (lit≤ tt) s (within-at-most t wt) in
           let k : AtMost 60 d = derivative-at-most 1 (lit≤ tt) x1 x2 u (within-at-most x1 w1) (within-at-most x2 w2) (within-at-most u w) in
-          let f : T (finiteOf d) = at-most-finite 60 d k in
+          let f : T (isFinite d) = at-most-finite 60 d k in
           clamped (u ⊖ x ⊘ d) (sub-number binary32 u (x ⊘ d) (within-finite u w) (div-number binary32 x d (at-most-finite 26 x m) f (not-zero d tinyF f limit-above-zero h)))
 
   newton-within : (n : ℕ) (turn : Turn) (u : Float) → NextWithin turn → Within u → Within ((newtonOf x1 x2 t n turn u) .u)
@@ -93,7 +93,7 @@ module _ (x1 x2 t : Float) (w1 : Within x1) (w2 : Within x2) (wt : Within t) whe
   newton-within (suc n) Flat u v w = bisection-within
   newton-within (suc n) (Next v) u w z = newton-within n (turnOf x1 x2 t v) v (turn-within v w) w
 
-pub found-within : (t x1 x2 : Float) → Within t → T (finiteOf x1) → T (finiteOf x2) → Within ((foundOf t x1 x2) .u)
+pub found-within : (t x1 x2 : Float) → Within t → T (isFinite x1) → T (isFinite x2) → Within ((foundOf t x1 x2) .u)
 unfolding foundOf
 found-within t x1 x2 w p q = go (atEnd t)
   where

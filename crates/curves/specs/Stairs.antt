@@ -1,16 +1,15 @@
 -- Document 01, "Easing": "Steps: 0 at t = 0; else ceil(t·n)/n, n at least 1, clamped. W3C's jump-end takes floor."
 use mathlib.Core.Bool.{Bool, true, false, cond}
 use Prim.Native.Nat.{ℕ, _+_, _-_, _*_, _/_, _%_, max}
-use lib.IntN.{pos}
 use lib.Dec.{eqb}
-use lib.Ieee.{Float, nan, inf, fin, binary32, up, down, neg, eq, ofInt}
-use Rattle.math.specs.Rounded.{_⊗_, _⊘_, zeroF}
+use lib.Ieee.{Float, nan, inf, fin, up, down, neg, eq}
+use Rattle.math.specs.Rounded.{_⊗_, _⊘_, wholeF, zeroF}
 use Rattle.math.specs.Range.{clamp01Of}
 use Rattle.math.specs.Whole.{ceilOf}
 
 -- the number of steps as a float, at least 1
 abbrev pub countOf : ℕ → Float
-countOf n = ofInt binary32 (pos (max n 1))
+countOf n = wholeF (max n 1)
 
 -- for c steps
 abbrev pub stairsOf : Float → Float → Float
@@ -23,8 +22,8 @@ stepsOf t n = cond (eq t zeroF) zeroF (stairsOf t (countOf n))
 abbrev pub floorOf : Float → Float
 floorOf nan = nan
 floorOf (inf s) = inf s
-floorOf (fin false m e) = ofInt binary32 (pos (m * up e / down e))
-floorOf (fin true m e) = neg (ofInt binary32 (pos ((m * up e + (down e - 1)) / down e)))
+floorOf (fin false m e) = wholeF (m * up e / down e)
+floorOf (fin true m e) = neg (wholeF ((m * up e + (down e - 1)) / down e))
 
 -- W3C's steps(n, jump-end), of the rounded product
 abbrev pub jumpEndOf : Float → ℕ → Float

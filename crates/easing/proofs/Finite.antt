@@ -7,7 +7,7 @@ use lib.Dec.{T, leb→le, lit≤}
 use lib.Ieee.{Float, isNan, ofBits}
 use lib.Ieee.Fits.{and-l, and-r}
 use Rattle.math.specs.Whole.{Is}
-use Rattle.math.specs.Range.{clamp01Of, finiteOf, Within, AtMost}
+use Rattle.math.specs.Range.{clamp01Of, isFinite, Within, AtMost}
 use Rattle.math.proofs.Choice.{by-test}
 use Rattle.math.proofs.Numbers.{finite-number}
 use Rattle.math.proofs.Ranges.{clamped, within-at-most}
@@ -104,5 +104,5 @@ apply-fine e t =
 pub apply-bounded : (e : Easing) (t v : Float) → applyOf e t ≡ Value v → AtMost 134217728 v
 apply-bounded e t v h = subst Fine h (apply-fine e t)
 
-pub apply-finite : (e : Easing) (t v : Float) → applyOf e t ≡ Value v → T (finiteOf v)
+pub apply-finite : (e : Easing) (t v : Float) → applyOf e t ≡ Value v → T (isFinite v)
 apply-finite e t v h = at-most-finite 134217728 v (apply-bounded e t v h)

@@ -4,7 +4,7 @@ use mathlib.Core.Bool.{Bool, _&&_}
 use lib.Dec.{leb, eqb}
 use lib.Ieee.{Float, le, eq}
 use Rattle.math.specs.Rounded.{f32, zeroF}
-use Rattle.math.specs.Range.{finiteOf, sizeOf}
+use Rattle.math.specs.Range.{isFinite, sizeOf}
 use Rattle.easing.specs.declared.kinds.Easing.{Easing}
 use Rattle.easing.specs.declared.kinds.Easing.the-variants.{Linear, EaseInQuad, EaseOutQuad, EaseInOutQuad, EaseInCubic, EaseOutCubic, EaseInOutCubic, EaseInQuart, EaseOutQuart, EaseInOutQuart, EaseInQuint, EaseOutQuint, EaseInOutQuint, EaseInSine, EaseOutSine, EaseInOutSine, EaseInExpo, EaseOutExpo, EaseInOutExpo, EaseInCirc, EaseOutCirc, EaseInOutCirc, EaseInBack, EaseOutBack, EaseInOutBack, EaseInElastic, EaseOutElastic, EaseInOutElastic, EaseInBounce, EaseOutBounce, EaseInOutBounce, CubicBezier, Steps, RoughEase, SlowMo, Wiggle, CustomBounce, ExpoScale}
 use Rattle.easing.specs.declared.params.Params.{Params}
@@ -67,7 +67,7 @@ upTo1024 x = le (sizeOf x) limitF
 
 -- "parameter is not finite, a Bezier y or a power is beyond 1,024 in size, or Steps is above 65,536"
 unfoldable pub withinOf : Params → Bool
-withinOf p = finiteOf (p .a) && upTo1024 (p .b) && finiteOf (p .c) && upTo1024 (p .d) && leb (p .count) 65536
+withinOf p = isFinite (p .a) && upTo1024 (p .b) && isFinite (p .c) && upTo1024 (p .d) && leb (p .count) 65536
 
 -- as the Rust compares them: -0 equals 0
 unfoldable pub equalOf : Params → Params → Bool

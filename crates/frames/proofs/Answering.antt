@@ -9,7 +9,7 @@ use Rattle.easing.specs.declared.kinds.Easing.{Easing}
 use Rattle.easing.specs.declared.answers.Eased.the-variants.{Value}
 use Rattle.easing.specs.Apply.{applyOf, fitsRecordOf}
 use Rattle.frames.specs.declared.frame.Keyframe.{Keyframe}
-use Rattle.frames.specs.Limits.{frameOf}
+use Rattle.frames.specs.Limits.{frameWithin}
 use Rattle.frames.specs.Sampling.{alongOf, easedOf}
 use Rattle.frames.proofs.Rising.{time-fine, easing-fine}
 use Rattle.frames.proofs.Clocks.{Clock, time-clock}
@@ -21,7 +21,7 @@ eased-answers e p h n =
     let k = fits-answers e p (holds (fitsRecordOf e) h) n in
     rw (k .1)
 
-pub between-answers : (k l : Keyframe) (t : Float) → frameOf k ≡ true → frameOf l ≡ true → Clock t
+pub between-answers : (k l : Keyframe) (t : Float) → frameWithin k ≡ true → frameWithin l ≡ true → Clock t
     → let p = alongOf (k .time) (l .time) t in
     applyOf (k .easing) p ≡ Value (easedOf (k .easing) p)
 between-answers k l t f g c =

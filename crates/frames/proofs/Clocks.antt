@@ -8,14 +8,14 @@ use lib.Ieee.{Float, nan, inf, fin, binary32, up, down, lt, le, eq, ofBits}
 use lib.Ieee.Bits.{is-true}
 use denote.Floats.{passes as holds}
 use Rattle.math.specs.Rounded.{_⊗_, zeroF, topF}
-use Rattle.math.specs.Range.{finiteOf, betweenOf, Within, AtMost}
+use Rattle.math.specs.Range.{isFinite, isBetween, Within, AtMost}
 use Rattle.math.proofs.Choice.{and-both}
 use Rattle.math.proofs.Order.{le-sizes, le-lt-chain}
 use Rattle.math.proofs.Upward.{Up, mul-up}
 use Rattle.math.proofs.Sizes.{up-to, at-most-finite}
 use Rattle.math.proofs.Bounded.{shrunk, top-is}
 use Rattle.math.proofs.Ranges.{within-at-most, within-finite}
-use Rattle.frames.specs.Limits.{plusOf, timeOf}
+use Rattle.frames.specs.Limits.{isPlus, isTime}
 use Rattle.frames.proofs.Rising.{time-top}
 use Rattle.math.proofs.Beneath.{at-most-le}
 
@@ -26,20 +26,20 @@ Clock x = Up x × T (le x topF)
 pub clock-most : (x : Float) → Clock x → AtMost 16777216 x
 clock-most x c = up-to 16777216 x topF top-is (c .0) (c .1)
 
-pub clock-finite : (x : Float) → Clock x → T (finiteOf x)
+pub clock-finite : (x : Float) → Clock x → T (isFinite x)
 clock-finite x c = at-most-finite 16777216 x (clock-most x c)
 
 -- as a test
-pub clock-test : (x : Float) → Clock x → betweenOf zeroF topF x ≡ true
+pub clock-test : (x : Float) → Clock x → isBetween zeroF topF x ≡ true
 clock-test x c = rw (is-true (le zeroF x) (c .0), is-true (le x topF) (c .1))
 
-pub test-clock : (x : Float) → betweenOf zeroF topF x ≡ true → Clock x
+pub test-clock : (x : Float) → isBetween zeroF topF x ≡ true → Clock x
 test-clock x h =
     let b = and-both (le zeroF x) (le x topF) h in
     (holds (le zeroF x) (b .0), holds (le x topF) (b .1))
 
 -- a frame's time
-plus-up : (x : Float) → plusOf x ≡ true → T (le x topF) → Up x
+plus-up : (x : Float) → isPlus x ≡ true → T (le x topF) → Up x
 unfolding le lt eq ofBits
 plus-up nan p h = absurd h
 plus-up (inf true) p h = absurd (holds false p)
@@ -50,12 +50,12 @@ plus-up (fin false m e) p h = subst⁻¹ T (le-sizes false false (0 * 1 * down e
     least : (a d : ℕ) → 0 * 1 * d ≤ a * 1
     least a d = omega arith
 
-pub time-clock : (x : Float) → timeOf x ≡ true → Clock x
-unfolding timeOf
-time-clock x h = (plus-up x (and-both (plusOf x) (le x topF) h .0) (time-top x h), time-top x h)
+pub time-clock : (x : Float) → isTime x ≡ true → Clock x
+unfolding isTime
+time-clock x h = (plus-up x (and-both (isPlus x) (le x topF) h .0) (time-top x h), time-top x h)
 
 -- a time after one from 0 on
-plus-above : (t : Float) → T (lt zeroF t) → plusOf t ≡ true
+plus-above : (t : Float) → T (lt zeroF t) → isPlus t ≡ true
 unfolding lt ofBits
 plus-above nan h = absurd h
 plus-above (inf true) h = absurd h
@@ -63,8 +63,8 @@ plus-above (inf false) h = refl
 plus-above (fin true m e) h = absurd h
 plus-above (fin false m e) h = refl
 
-pub later-time : (p t : Float) → Up p → T (lt p t) → T (le t topF) → timeOf t ≡ true
-unfolding timeOf
+pub later-time : (p t : Float) → Up p → T (lt p t) → T (le t topF) → isTime t ≡ true
+unfolding isTime
 later-time p t u h m = rw (plus-above t (le-lt-chain zeroF p t u h), is-true (le t topF) m)
 
 -- a part of it

@@ -12,7 +12,7 @@ use lib.ListN.{length, getD}
 use lib.Ieee.{binary32, fits, lt, le, eq, isNan}
 use lib.Ieee.Bits.{is-true}
 use Rattle.math.specs.Rounded.{_⊖_, _⊘_, zeroF}
-use Rattle.math.specs.Range.{finiteOf, clamp01Of}
+use Rattle.math.specs.Range.{isFinite, clamp01Of}
 use Rattle.math.proofs.Order.{le-self, le-lt-chain, not-le-of-lt, eq-self}
 use Rattle.math.proofs.Numbers.{finite-number}
 use Rattle.math.proofs.Wholes.{power-is}
@@ -20,7 +20,7 @@ use Rattle.math.proofs.Zeros.{sub-self, zero-over}
 use Rattle.math.proofs.Blends.{blend-zero}
 use Rattle.math.proofs.Sizes.{at-most-finite, sub-at-most}
 use Rattle.frames.specs.declared.frame.Keyframe.{Keyframe}
-use Rattle.frames.specs.Limits.{frameOf, framesOf, beforeAll, noFrame}
+use Rattle.frames.specs.Limits.{frameWithin, framesWithin, beforeAll, noFrame}
 use Rattle.frames.specs.Sampling.{passedOf, firstOf, lastOf, spanOf, betweenOf, sampleOf}
 use Rattle.frames.proofs.Rising.{each-fine, rising, time-fine, time-number}
 use Rattle.frames.proofs.Clocks.{clock-finite, time-clock}
@@ -29,14 +29,14 @@ use Rattle.frames.proofs.Samples.{value-bound, span-finite, span-above,
 use Rattle.frames.proofs.EasedAtZero.{zero-clamped, eased-zero}
 
 -- the value of a frame is finite, and so is what lies between two
-finite-value : (k : Keyframe) → frameOf k ≡ true → T (finiteOf (k .value))
+finite-value : (k : Keyframe) → frameWithin k ≡ true → T (isFinite (k .value))
 finite-value k f = at-most-finite 16777216 (k .value) (value-bound k f)
 
-finite-apart : (k l : Keyframe) → frameOf k ≡ true → frameOf l ≡ true → T (finiteOf (l .value ⊖ k .value))
+finite-apart : (k l : Keyframe) → frameWithin k ≡ true → frameWithin l ≡ true → T (isFinite (l .value ⊖ k .value))
 finite-apart k l f g =
     at-most-finite 33554432 (l .value ⊖ k .value) (sub-at-most binary32 33554432 (power-is binary32 25 (lit≤ tt)) 16777216 16777216 (l .value) (k .value) (lit≤ tt) (value-bound l g) (value-bound k f))
 
-between-own : (k l : Keyframe) → frameOf k ≡ true → frameOf l ≡ true → T (fits binary32 (k .value)) → eq (betweenOf k l (k .time)) (k .value) ≡ true
+between-own : (k l : Keyframe) → frameWithin k ≡ true → frameWithin l ≡ true → T (fits binary32 (k .value)) → eq (betweenOf k l (k .time)) (k .value) ≡ true
 unfolding betweenOf
 between-own k l f g F =
     let ck = time-clock (k .time) (time-fine k f) in
@@ -45,7 +45,7 @@ between-own k l f g F =
     let z : clamp01Of ((k .time ⊖ k .time) ⊘ s) ≡ zeroF = rw (sub-self (k .time) (clock-finite (k .time) ck), zero-over s (span-finite (k .time) (k .time) (l .time) ck ck cl) (span-above (k .time) (k .time) (l .time) ck ck cl)) zero-clamped in
     rw z (blend-zero (k .value) (l .value) _ F (finite-value k f) (finite-apart k l f g) (eased-zero (k .easing)))
 
-module _ (l : List Keyframe) (fine : framesOf l ≡ true) (p : ℕ) (here : p < length l) (held : T (fits binary32 (getD l p noFrame .value))) where
+module _ (l : List Keyframe) (fine : framesWithin l ≡ true) (p : ℕ) (here : p < length l) (held : T (fits binary32 (getD l p noFrame .value))) where
   same : eq (getD l p noFrame .value) (getD l p noFrame .value) ≡ true
   same = eq-self (getD l p noFrame .value) (finite-number (getD l p noFrame .value) (finite-value (getD l p noFrame) (each-fine beforeAll l fine p here)))
 

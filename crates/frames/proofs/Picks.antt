@@ -17,7 +17,7 @@ use Rattle.math.specs.Range.{maxZeroOf}
 use Rattle.math.proofs.Choice.{by-test}
 use Rattle.math.proofs.Order.{le-numbers, le-self, lt-le, le-chain, lt-of-not-le}
 use Rattle.frames.specs.declared.frame.Keyframe.{Keyframe}
-use Rattle.frames.specs.Limits.{framesOf, beforeAll, noFrame}
+use Rattle.frames.specs.Limits.{framesWithin, beforeAll, noFrame}
 use Rattle.frames.specs.Counting.{counted}
 use Rattle.frames.specs.Sampling.{timesOf, passedOf, lastOf, cutOf, betweenOf, pickOf, atOf, sampleOf}
 use Rattle.frames.proofs.Rising.{each-fine, rising, time-fine, time-number}
@@ -25,7 +25,7 @@ use Rattle.frames.proofs.Walks.{lead-is, lead-below}
 use Rattle.frames.proofs.Counts.{counted-passed, counted-front}
 
 -- the frames of an interval of ascending times are the last at or before t, and the next
-pub passed-interval : (l : List Keyframe) (t : Float) (i : ℕ) → framesOf l ≡ true → i + 1 < length l → le (getD l i noFrame .time) t ≡ true → le (getD l (i + 1) noFrame .time) t ≡ false → passedOf t l ≡ i + 1
+pub passed-interval : (l : List Keyframe) (t : Float) (i : ℕ) → framesWithin l ≡ true → i + 1 < length l → le (getD l i noFrame .time) t ≡ true → le (getD l (i + 1) noFrame .time) t ≡ false → passedOf t l ≡ i + 1
 passed-interval l t i f h a z =
     lead-is (λ (k : Keyframe). le (k .time) t) l (i + 1) (omega arith)
     (λ j b. ⊎-elim (λ (e : j ≡ i). rw e a) (λ (e : j < i). is-true (le (getD l j noFrame .time) t) (earlier j e)) (eq-or-lt-of-le {n = j} {m = i} (omega (arith, b))))
@@ -52,7 +52,7 @@ pick-same first last k l m n t h = go (le t (first .time)) (le (last .time) t) h
 cut-most : (x top : Float) → isNan top ≡ false → T (le (cutOf x top) top)
 cut-most x top n = by-test (λ (z : Float). T (le z top)) (lt x top) x top (λ h. lt-le x top (holds (lt x top) h)) (λ _. le-self top n)
 
-module _ (fs : List Keyframe) (n : ℕ) (some : 1 ≤ n) (fit : n ≤ length fs) (fine : framesOf (take n fs) ≡ true) where
+module _ (fs : List Keyframe) (n : ℕ) (some : 1 ≤ n) (fit : n ≤ length fs) (fine : framesWithin (take n fs) ≡ true) where
   long : length (take n fs) ≡ n
   long = length-take-le n fs fit
 

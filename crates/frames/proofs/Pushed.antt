@@ -15,7 +15,7 @@ use Rattle.math.proofs.Choice.{by-test}
 use Rattle.math.proofs.Upward.{Up}
 use Rattle.math.proofs.Order.{lt-le, equal-le, le-of-not-lt, not-lt-of-le, le-lt-chain}
 use Rattle.frames.specs.declared.frame.Keyframe.{Keyframe}
-use Rattle.frames.specs.Limits.{frameOf, framesAfter, framesOf, beforeAll, noFrame}
+use Rattle.frames.specs.Limits.{frameWithin, framesAfter, framesWithin, beforeAll, noFrame}
 use Rattle.frames.specs.Sampling.{lastOf, durationOf}
 use Rattle.frames.specs.Pushing.{pushedOf}
 use Rattle.frames.proofs.Rising.{time-fine, time-number, head-fine, head-above, rest-fine, above}
@@ -30,7 +30,7 @@ module _ (x y : Float) (p : isNan x ≡ false) (q : isNan y ≡ false) (h : lt x
       go true k = tt
       go false k = absurd (rw (h, e) at (le-of-not-lt y x q p k))
 
-frames-cons : (p : Float) (k : Keyframe) (ks : List Keyframe) → frameOf k ≡ true → T (lt p (k .time)) → framesAfter (k .time) ks ≡ true → framesAfter p (k ∷ ks) ≡ true
+frames-cons : (p : Float) (k : Keyframe) (ks : List Keyframe) → frameWithin k ≡ true → T (lt p (k .time)) → framesAfter (k .time) ks ≡ true → framesAfter p (k ∷ ks) ≡ true
 unfolding framesAfter
 frames-cons p k ks f a r = rw (f, is-true (lt p (k .time)) a, r)
 
@@ -40,7 +40,7 @@ unfolding framesAfter
 sooner p q [] h f = refl
 sooner p q (k ∷ ks) h f = frames-cons q k ks (head-fine p k ks f) (le-lt-chain q p (k .time) h (head-above p k ks f)) (rest-fine p k ks f)
 
-module _ (k : Keyframe) (fine : frameOf k ≡ true) where
+module _ (k : Keyframe) (fine : frameWithin k ≡ true) where
   real : isNan (k .time) ≡ false
   real = time-number (k .time) (time-fine k fine)
 
@@ -108,7 +108,7 @@ module _ (k : Keyframe) (real : isNan (k .time) ≡ false) where
       let l : lt (k .time) (lastFrom g gs .time) ≡ true = is-true (lt (k .time) (lastFrom g gs .time)) (le-lt-chain (k .time) (f .time) (lastFrom g gs .time) (le-of-not-lt (f .time) (k .time) n real a) z) in
       by-test (Later k (lastFrom g gs .time)) (eq (f .time) (k .time)) (k ∷ g ∷ gs) (k ∷ f ∷ g ∷ gs) (λ e. rw l (ap (λ (x : Keyframe). x .time) (last-from k (g ∷ gs)))) (λ e. rw l (ap (λ (x : Keyframe). x .time) (last-from k (f ∷ g ∷ gs)))))
 
-  pub pushed-last : Up (k .time) → (l : List Keyframe) → framesOf l ≡ true → durationOf (pushedOf k l) ≡ cond (lt (k .time) (durationOf l)) (durationOf l) (k .time)
+  pub pushed-last : Up (k .time) → (l : List Keyframe) → framesWithin l ≡ true → durationOf (pushedOf k l) ≡ cond (lt (k .time) (durationOf l)) (durationOf l) (k .time)
   unfolding durationOf pushedOf
   pushed-last u [] h = rw (not-lt-of-le zeroF (k .time) u)
   pushed-last u (f ∷ fs) h =

@@ -11,7 +11,7 @@ use lib.Ieee.{Float, binary32, lt, le, isNan, ofBits}
 use lib.Ieee.Bits.{is-true}
 use denote.Floats.{passes as holds}
 use Rattle.math.specs.Rounded.{_⊖_, _⊘_, zeroF, epsilonF}
-use Rattle.math.specs.Range.{finiteOf, valueOf, maxZeroOf, Within, AtMost}
+use Rattle.math.specs.Range.{isFinite, isValue, maxZeroOf, Within, AtMost}
 use Rattle.math.proofs.Choice.{by-test}
 use Rattle.math.proofs.Order.{le-numbers, le-self, le-chain, lt-le, lt-le-chain, not-lt-of-le, not-le-of-lt, le-of-not-lt, lt-of-not-le, lt-not-eq}
 use Rattle.math.proofs.Numbers.{div-number}
@@ -26,13 +26,13 @@ use Rattle.easing.specs.declared.answers.Eased.the-variants.{Value, Refused}
 use Rattle.easing.specs.Apply.{applyOf}
 use Rattle.easing.proofs.Finite.{apply-bounded}
 use Rattle.frames.specs.declared.frame.Keyframe.{Keyframe}
-use Rattle.frames.specs.Limits.{frameOf, framesOf, beforeAll, noFrame}
+use Rattle.frames.specs.Limits.{frameWithin, framesWithin, beforeAll, noFrame}
 use Rattle.frames.specs.Sampling.{passedOf, firstOf, lastOf, cutOf, spanOf, valueIn, easedOf, alongOf, betweenOf, atOf, sampleOf}
 use Rattle.frames.proofs.Rising.{each-fine, rising, time-fine, time-number, value-fine}
 use Rattle.frames.proofs.Clocks.{Clock, clock-most, time-clock}
 use Rattle.frames.proofs.Walks.{lead-some, lead-below}
 
-epsilon-finite : T (finiteOf epsilonF)
+epsilon-finite : T (isFinite epsilonF)
 unfolding ofBits
 epsilon-finite = tt
 
@@ -42,11 +42,11 @@ epsilon-above = tt
 
 -- how far through a span t is
 module _ (t x y : Float) (ct : Clock t) (cx : Clock x) (cy : Clock y) where
-  apart-finite : (u v : Float) → Clock u → Clock v → T (finiteOf (u ⊖ v))
+  apart-finite : (u v : Float) → Clock u → Clock v → T (isFinite (u ⊖ v))
   apart-finite u v cu cv = at-most-finite 16777216 (u ⊖ v) (sub-near binary32 16777216 (power-is binary32 24 (lit≤ tt)) u v (cu .0) (cv .0) (clock-most u cu) (clock-most v cv))
 
-  pub span-finite : T (finiteOf (spanOf (y ⊖ x)))
-  span-finite = by-test (λ (z : Float). T (finiteOf z)) (lt epsilonF (y ⊖ x)) (y ⊖ x) epsilonF (λ _. apart-finite y x cy cx) (λ _. epsilon-finite)
+  pub span-finite : T (isFinite (spanOf (y ⊖ x)))
+  span-finite = by-test (λ (z : Float). T (isFinite z)) (lt epsilonF (y ⊖ x)) (y ⊖ x) epsilonF (λ _. apart-finite y x cy cx) (λ _. epsilon-finite)
 
   pub span-above : T (lt zeroF (spanOf (y ⊖ x)))
   span-above = by-test (λ (z : Float). T (lt zeroF z)) (lt epsilonF (y ⊖ x)) (y ⊖ x) epsilonF (λ h. lt-le-chain zeroF epsilonF (y ⊖ x) epsilon-above (lt-le epsilonF (y ⊖ x) (holds (lt epsilonF (y ⊖ x)) h))) (λ _. epsilon-above)
@@ -54,8 +54,8 @@ module _ (t x y : Float) (ct : Clock t) (cx : Clock x) (cy : Clock y) where
   pub local-within : Within (alongOf x y t)
   local-within = clamped ((t ⊖ x) ⊘ spanOf (y ⊖ x)) (div-number binary32 (t ⊖ x) (spanOf (y ⊖ x)) (apart-finite t x ct cx) span-finite (lt-not-eq zeroF (spanOf (y ⊖ x)) span-above))
 
-pub value-bound : (k : Keyframe) → frameOf k ≡ true → AtMost 16777216 (k .value)
-value-bound k f = value-most (k .value) (holds (valueOf (k .value)) (value-fine k f))
+pub value-bound : (k : Keyframe) → frameWithin k ≡ true → AtMost 16777216 (k .value)
+value-bound k f = value-most (k .value) (holds (isValue (k .value)) (value-fine k f))
 
 eased-most : (e : Easing) (p : Float) → AtMost 134217728 (easedOf e p)
 eased-most e p = go (applyOf e p) refl
@@ -64,15 +64,15 @@ eased-most e p = go (applyOf e p) refl
     go (Value v) h = apply-bounded e p v h
     go (Refused r) h = zero-most 134217728
 
-between-most : (k l : Keyframe) (t : Float) → frameOf k ≡ true → frameOf l ≡ true → AtMost 9007199254740992 (betweenOf k l t)
+between-most : (k l : Keyframe) (t : Float) → frameWithin k ≡ true → frameWithin l ≡ true → AtMost 9007199254740992 (betweenOf k l t)
 unfolding betweenOf
 between-most k l t f g =
     let c = easedOf (k .easing) (alongOf (k .time) (l .time) t) in
     blend-most (k .value) (l .value) c (value-bound k f) (value-bound l g) (eased-most (k .easing) (alongOf (k .time) (l .time) t))
 
 -- the time that is sampled: from 0 to the last time, or that time
-module _ (l : List Keyframe) (fine : framesOf l ≡ true) (some : 0 < length l) where
-  frame-fine : (i : ℕ) → i < length l → frameOf (getD l i noFrame) ≡ true
+module _ (l : List Keyframe) (fine : framesWithin l ≡ true) (some : 0 < length l) where
+  frame-fine : (i : ℕ) → i < length l → frameWithin (getD l i noFrame) ≡ true
   frame-fine i h = each-fine beforeAll l fine i h
 
   last-place : length l - 1 < length l
@@ -121,7 +121,7 @@ module _ (l : List Keyframe) (fine : framesOf l ≡ true) (some : 0 < length l) 
       let high = passed-high t (cut-number secs) a z in
       between-most (getD l (passedOf t l - 1) noFrame) (getD l (passedOf t l) noFrame) t (frame-fine (passedOf t l - 1) (omega (arith, low, high, some))) (frame-fine (passedOf t l) (omega (arith, high, some))))))
 
-  pub sample-finite : (secs : Float) → T (finiteOf (sampleOf l secs))
+  pub sample-finite : (secs : Float) → T (isFinite (sampleOf l secs))
   sample-finite secs = at-most-finite 9007199254740992 (sampleOf l secs) (sample-most secs)
 
   -- at or before the first time

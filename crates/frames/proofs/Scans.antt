@@ -11,7 +11,7 @@ use lib.Seq.{length-take-le, getD-take}
 use lib.Ieee.{Float, le}
 use Rattle.math.specs.Range.{maxZeroOf}
 use Rattle.frames.specs.declared.frame.Keyframe.{Keyframe}
-use Rattle.frames.specs.Limits.{framesOf, noFrame}
+use Rattle.frames.specs.Limits.{framesWithin, noFrame}
 use Rattle.frames.specs.Sampling.{passedOf, cutOf, pickOf, sampleOf}
 use Rattle.frames.proofs.Picks.{passed-interval, real, started, picked}
 
@@ -36,7 +36,7 @@ module _ (fs : List Keyframe) (t : Float) where
         }
 
 -- what is picked beside the place that was found is the sample
-module _ (fs : List Keyframe) (n : ℕ) (some : 1 ≤ n) (fit : n ≤ length fs) (fine : framesOf (take n fs) ≡ true)
+module _ (fs : List Keyframe) (n : ℕ) (some : 1 ≤ n) (fit : n ≤ length fs) (fine : framesWithin (take n fs) ≡ true)
     (secs t : Float) (cut : t ≡ cutOf (maxZeroOf secs) (getD fs (n - 1) noFrame .time)) (low : ℕ) (s : Scanned fs t low n) where
   module _ (a : le t (getD fs 0 noFrame .time) ≡ false) (z : le (getD fs (n - 1) noFrame .time) t ≡ false) where
     here : le (getD fs low noFrame .time) t ≡ true

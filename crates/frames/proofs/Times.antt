@@ -12,7 +12,7 @@ use lib.Ieee.{Float, nan, inf, fin, binary32, fits, up, down, lt, le, eq, isNan,
 use Rattle.math.specs.Rounded.{zeroF, topF}
 use Rattle.math.proofs.Fitting.{no-size}
 use Rattle.math.proofs.Zeros.{equal-none, none-equal}
-use Rattle.frames.specs.Limits.{plusOf, timeOf}
+use Rattle.frames.specs.Limits.{isPlus, isTime}
 
 -- what equals 0 is a number
 pub number : (t : Float) → eq t zeroF ≡ true → T (not (isNan t))
@@ -21,13 +21,13 @@ number nan h = absurd (true≢false (sym h))
 number (inf s) h = tt
 number (fin s m e) h = tt
 
-zero-form : (s : Bool) → eqb (toBits binary32 (fin s 0 (pos 0))) 0 ≡ plusOf (fin s 0 (pos 0)) && le (fin s 0 (pos 0)) topF
+zero-form : (s : Bool) → eqb (toBits binary32 (fin s 0 (pos 0))) 0 ≡ isPlus (fin s 0 (pos 0)) && le (fin s 0 (pos 0)) topF
 unfolding toBits size le lt eq ofBits
 zero-form true = refl
 zero-form false = refl
 
-pub at-zero : (t : Float) → T (fits binary32 t) → eq t zeroF ≡ true → eqb (toBits binary32 t) 0 ≡ timeOf t
-unfolding timeOf eq ofBits
+pub at-zero : (t : Float) → T (fits binary32 t) → eq t zeroF ≡ true → eqb (toBits binary32 t) 0 ≡ isTime t
+unfolding isTime eq ofBits
 at-zero nan f h = absurd (true≢false (sym h))
 at-zero (inf true) f h = absurd (true≢false (sym h))
 at-zero (inf false) f h = absurd (true≢false (sym h))
@@ -35,8 +35,8 @@ at-zero (fin s m e) f h =
     let z = no-size binary32 s m e f (equal-none s m e h) in
     rw (z .0, z .1) (zero-form s)
 
-pub off-zero : (t : Float) → eq t zeroF ≡ false → lt zeroF t && le t topF ≡ timeOf t
-unfolding timeOf lt eq ofBits
+pub off-zero : (t : Float) → eq t zeroF ≡ false → lt zeroF t && le t topF ≡ isTime t
+unfolding isTime lt eq ofBits
 off-zero nan h = refl
 off-zero (inf true) h = refl
 off-zero (inf false) h = refl

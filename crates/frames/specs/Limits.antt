@@ -3,36 +3,36 @@ use mathlib.Core.Bool.{Bool, true, false, not, _&&_}
 use mathlib.Core.List.{List, [], _∷_}
 use lib.Ieee.{Float, nan, inf, fin, lt, le}
 use Rattle.math.specs.Rounded.{f32, zeroF, topF}
-use Rattle.math.specs.Range.{valueOf}
+use Rattle.math.specs.Range.{isValue}
 use Rattle.easing.specs.Apply.{fitsRecordOf}
 use Rattle.easing.specs.declared.kinds.Easing.the-variants.{Linear}
 use Rattle.frames.specs.declared.frame.Keyframe.{Keyframe}
 
 -- the sign is clear
-abbrev pub plusOf : Float → Bool
-plusOf nan = false
-plusOf (inf s) = not s
-plusOf (fin s m e) = not s
+abbrev pub isPlus : Float → Bool
+isPlus nan = false
+isPlus (inf s) = not s
+isPlus (fin s m e) = not s
 
 -- "Times are finite, +0 to 16,777,216 (a record holding -0 as a time breaks this)"
-unfoldable pub timeOf : Float → Bool
-timeOf t = plusOf t && le t topF
+unfoldable pub isTime : Float → Bool
+isTime t = isPlus t && le t topF
 
 -- "values finite, at most 16,777,216 in size", and "Easing inside a record must be supplied and within limits"
-unfoldable pub frameOf : Keyframe → Bool
-frameOf k = timeOf (k .time) && valueOf (k .value) && fitsRecordOf (k .easing)
+unfoldable pub frameWithin : Keyframe → Bool
+frameWithin k = isTime (k .time) && isValue (k .value) && fitsRecordOf (k .easing)
 
 -- each within its limits, and "times strictly ascending": above the time before, p
 unfoldable pub framesAfter : Float → List Keyframe → Bool
 framesAfter p [] = true
-framesAfter p (k ∷ ks) = frameOf k && lt p (k .time) && framesAfter (k .time) ks
+framesAfter p (k ∷ ks) = frameWithin k && lt p (k .time) && framesAfter (k .time) ks
 
 -- -1, which stands before the first time
 abbrev pub beforeAll : Float
 beforeAll = f32 0xbf80_0000
 
-abbrev pub framesOf : List Keyframe → Bool
-framesOf l = framesAfter beforeAll l
+abbrev pub framesWithin : List Keyframe → Bool
+framesWithin l = framesAfter beforeAll l
 
 -- what a place holds that never had a frame
 abbrev pub blank : Keyframe

@@ -3,7 +3,7 @@ ghost use mathlib.Core.Path.{_≡_};
 ghost use mathlib.Core.Bool.{true};
 ghost use Prim.Native.Nat.{_<_, _≤_};
 ghost use lib.ListN.{length, take};
-ghost use Rattle.frames.specs.Limits.{framesOf};
+ghost use Rattle.frames.specs.Limits.{framesWithin};
 ghost use Rattle.frames.specs.Sampling.{timesOf, sampleOf, filledOf};
 use crate::frame::Keyframe;
 use crate::sampling::cut;
@@ -27,7 +27,7 @@ fn times_of(frames: [Keyframe; 64], n: usize) -> [f32; 64]
 // The sample of the first n frames at each time goes into the front of out. The frames stay where
 // they are: only the two beside a time are copied.
 pub fn fill(frames: [Keyframe; 64], n: usize, times: &[f32], out: &mut [f32])
-    requires { ⌜ (framesOf (take n frames) ≡ true) × (0 < n) × (n ≤ 64) × (length (now times) ≤ length (now out)) ⌝ }
+    requires { ⌜ (framesWithin (take n frames) ≡ true) × (0 < n) × (n ≤ 64) × (length (now times) ≤ length (now out)) ⌝ }
     ensures { λ _. ⌜ now (out .exit) ≡ filledOf (take n frames) (now (times .entry)) (now (out .entry)) ⌝ }
 {
     let first = frames[0];
@@ -46,7 +46,7 @@ pub fn fill(frames: [Keyframe; 64], n: usize, times: &[f32], out: &mut [f32])
 
 // One time is a list of one.
 pub fn sample(frames: [Keyframe; 64], n: usize, secs: f32) -> f32
-    requires { ⌜ (framesOf (take n frames) ≡ true) × (0 < n) × (n ≤ 64) ⌝ }
+    requires { ⌜ (framesWithin (take n frames) ≡ true) × (0 < n) × (n ≤ 64) ⌝ }
     ensures { λ r. ⌜ r ≡ sampleOf (take n frames) secs ⌝ }
 {
     let times = [secs];

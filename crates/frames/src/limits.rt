@@ -1,12 +1,12 @@
 // The limits of a frame, and the frame that stands where there is none.
 ghost use mathlib.Core.Path.{_≡_};
-ghost use Rattle.frames.specs.Limits.{timeOf, frameOf, blank};
+ghost use Rattle.frames.specs.Limits.{isTime, frameWithin, blank};
 use crate::frame::Keyframe;
 use easing::Easing;
 
 // Finite, from +0 to 16,777,216 seconds: -0 is none.
 pub fn is_time(t: f32) -> bool
-    ensures { λ r. ⌜ r ≡ timeOf t ⌝ }
+    ensures { λ r. ⌜ r ≡ isTime t ⌝ }
 {
     if t == 0.0 {
         return f32::to_bits(t) == 0;
@@ -16,7 +16,7 @@ pub fn is_time(t: f32) -> bool
 
 impl Keyframe {
     pub fn is_within_limits(self) -> bool
-        ensures { λ r. ⌜ r ≡ frameOf self ⌝ }
+        ensures { λ r. ⌜ r ≡ frameWithin self ⌝ }
     {
         let easing = self.easing;
         is_time(self.time) & math::is_value(self.value) & easing.fits_record()

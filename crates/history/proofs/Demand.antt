@@ -6,6 +6,7 @@ use mathlib.Core.Path.{_≡_, refl, sym, ap, _∙_, subst}
 use mathlib.Core.Bool.{true, false, cond}
 use mathlib.Core.List.{List, [], _∷_}
 use borrow.Author.Tests.{le-leb, lt-leb}
+use Rattle.math.specs.Rounded.{wholeF}
 use Rattle.math.specs.Whole.{Is}
 use Rattle.loop_mode.specs.declared.Loop.{Loop}
 use Rattle.loop_mode.specs.declared.PassLimit.{PassLimit}
@@ -21,7 +22,7 @@ use Rattle.tween.specs.declared.answers.Updated.the-variants as updated
 use Rattle.tween.specs.Calls.{pauseOf, resumeOf}
 use Rattle.tween.specs.Update.{updateOf}
 use Rattle.tween.specs.Promises.{isCompleted}
-use Rattle.history.specs.History.{whole, Act, step, pause, resume, Small, AllSmall, Past, counts, updatedBy, changedTo, after, afterAll, fresh, scaled, cutAt, reaches, foldsIn, Holds, Demand3}
+use Rattle.history.specs.History.{Act, step, pause, resume, Small, AllSmall, Past, counts, updatedBy, changedTo, after, afterAll, fresh, scaled, cutAt, reaches, foldsIn, Holds, Demand3}
 use Rattle.history.proofs.Folding.{Below, Reached}
 use Rattle.history.proofs.Standing.{At, Standing, Stays, pause-keeps, resume-keeps, reset-begins}
 use Rattle.history.proofs.Keeping.{Came, leftOver, update-keeps}
@@ -82,11 +83,11 @@ module _ (l : Loop) (D W s : ℕ) where
   changed-stands h (changed.Done u) j = j
   changed-stands h (changed.Refused u r) j = j
 
-  answers : (h : Past) → Stands h → (n : ℕ) → n ≤ 524288 → Answers h n (updateOf (h .tween) (whole n))
+  answers : (h : Past) → Stands h → (n : ℕ) → n ≤ 524288 → Answers h n (updateOf (h .tween) (wholeF n))
   answers h i n m = update-keeps l D W s (h .taken) (scaled s W (h .taken)) (h .made) n (h .tween) m i
 
   after-stands : (h : Past) (a : Act) → Small a → Stands h → Stands (after h a)
-  after-stands h (step n) m i = updated-stands h n (updateOf (h .tween) (whole n)) (answers h i n m)
+  after-stands h (step n) m i = updated-stands h n (updateOf (h .tween) (wholeF n)) (answers h i n m)
   after-stands h pause m i = changed-stands h (pauseOf (h .tween)) (pause-keeps l D W s (h .taken) (scaled s W (h .taken)) (h .made) (h .tween) i)
   after-stands h resume m i = changed-stands h (resumeOf (h .tween)) (resume-keeps l D W s (h .taken) (scaled s W (h .taken)) (h .made) (h .tween) i)
 
@@ -98,7 +99,7 @@ module _ (l : Loop) (D W s : ℕ) where
   holds : (h : Past) → Stands h → Holds l D s (scaled s W (h .taken)) h
   holds h i =
       let k = adds l D (scaled s W (h .taken)) (h .made) (i .settings .duration-from) W (h .taken) (h .tween .state) (h .tween) (i .at) in
-      record { folds-are = k .0; elapsed-is = k .1; completed-is = k .2; next-few = λ n m. few-more h n (updateOf (h .tween) (whole n)) (answers h i n m) }
+      record { folds-are = k .0; elapsed-is = k .1; completed-is = k .2; next-few = λ n m. few-more h n (updateOf (h .tween) (wholeF n)) (answers h i n m) }
 
 -- at the start A is 0
 none-yet : (s W : ℕ) → 0 ≡ scaled s W 0

@@ -6,7 +6,7 @@ use mathlib.Core.Path.{_≡_, refl, sym, ap, _∙_, subst, subst₂, subst⁻¹}
 use mathlib.Core.Bool.{Bool, true, false, _&&_, cond, true≢false}
 use borrow.Author.Tests.{ltb-true, ltb-false, leb-false, ne-eqb}
 use lib.Ieee.{Float, binary32, lt, le, eq}
-use Rattle.math.specs.Rounded.{zeroF, topF, _⊕_, _⊖_, _⊗_}
+use Rattle.math.specs.Rounded.{_⊕_, _⊖_, _⊗_, wholeF, zeroF, topF}
 use Rattle.math.specs.Range.{maxZeroOf}
 use Rattle.math.specs.Whole.{Is}
 use Rattle.math.proofs.Choice.{by-test}
@@ -25,7 +25,7 @@ use Rattle.tween.specs.Limits.{withinOf}
 use Rattle.tween.specs.Folds.{due, foldsOf}
 use Rattle.tween.specs.Update.{beginAt, afterFolds, advanced, waiting, lostOf, waitOf, runOf, byState, updateOf}
 use Rattle.tween.proofs.Ways.{not-due, foldedFrom, by-advanced}
-use Rattle.history.specs.History.{whole, counts}
+use Rattle.history.specs.History.{counts}
 use Rattle.history.proofs.Folding.{Below, Counted, FoldedTo, all-keep}
 use Rattle.history.proofs.Standing.{Under, At, Standing, moves-to, duration-value, scale-value, delay-value, product-small}
 
@@ -145,11 +145,11 @@ module _ (l : Loop) (D W s H A F n : ℕ) (t : Tween) (small : n ≤ 524288) (i 
     by-state-keeps Completed j = still
 
   -- The general law, of which demand 3 is a case: an update by n at the scale s, whatever it answers, takes H to K, which is H + n or, while paused or completed, H, and A to A and what n left over after the delay, scaled; it reports at most n times s / D folds, plus 1. A is a running sum: the scale may be another at each update, and a reset may come anywhere.
-  pub update-keeps : let K = H + cond (counts (t .state)) n 0 in Came l D W s n H A F K (A + leftOver s W H K) (updateOf t (whole n))
+  pub update-keeps : let K = H + cond (counts (t .state)) n 0 in Came l D W s n H A F K (A + leftOver s W H K) (updateOf t (wholeF n))
   unfolding updateOf
   update-keeps =
       let K = H + cond (counts (t .state)) n 0 in
       let P : Updated → Type 0 = Came l D W s n H A F K (A + leftOver s W H K) in
-      let step-is : Is (whole n) n = whole-is binary32 n (omega (arith, small)) in
+      let step-is : Is (wholeF n) n = whole-is binary32 n (omega (arith, small)) in
       by-test P (withinOf t) _ _
-      (λ _. by-test P (lt topF (whole n)) _ _ (λ _. i) (λ _. by-state-keeps (maxZeroOf (whole n)) (max-zero-is (whole n) n step-is) (t .state) (i .at))) (λ _. i)
+      (λ _. by-test P (lt topF (wholeF n)) _ _ (λ _. i) (λ _. by-state-keeps (maxZeroOf (wholeF n)) (max-zero-is (wholeF n) n step-is) (t .state) (i .at))) (λ _. i)

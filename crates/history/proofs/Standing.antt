@@ -8,7 +8,7 @@ use mathlib.Core.Bool.{Bool, true, false, cond}
 use borrow.Author.Tests.{ltb-true, ltb-false, eqb-false}
 use lib.Dec.{ltb, eqb}
 use lib.Ieee.{binary32, lt}
-use Rattle.math.specs.Rounded.{zeroF}
+use Rattle.math.specs.Rounded.{wholeF, zeroF}
 use Rattle.math.specs.Whole.{Is}
 use Rattle.math.proofs.Choice.{by-test}
 use Rattle.math.proofs.Equals.{equal-is, equal-above}
@@ -25,7 +25,7 @@ use Rattle.tween.specs.declared.answers.Changed.the-variants.{Done, Refused}
 use Rattle.tween.specs.Parts.{put, moved}
 use Rattle.tween.specs.Limits.{withinOf}
 use Rattle.tween.specs.Calls.{atStart, paused, resumed, resetOf, pauseOf, resumeOf}
-use Rattle.history.specs.History.{whole, Settings}
+use Rattle.history.specs.History.{Settings}
 use Rattle.history.proofs.Folding.{Below, Reached, Counted}
 
 -- H is the sum of the steps that counted, A the sum of what each left over after the delay, scaled, and F the sum of the folds. e of the pass under way has elapsed
@@ -64,13 +64,13 @@ moves-to l D W s H A F K B G t now i j = record { settings = settings-stay now t
 -- the settings as numbers; a delay of 0 may be -0
 module _ (t : Tween) (D W s : ℕ) (i : Settings t D W s) where
   pub duration-value : Is (t .duration) D
-  duration-value = equal-is (t .duration) (whole D) D (whole-is binary32 D (omega arith)) (i .duration-from) (i .duration-is)
+  duration-value = equal-is (t .duration) (wholeF D) D (whole-is binary32 D (omega arith)) (i .duration-from) (i .duration-is)
 
   pub scale-value : Is (t .«time_scale») s
-  scale-value = equal-is (t .«time_scale») (whole s) s (whole-is binary32 s (omega arith)) (i .scale-from) (i .scale-is)
+  scale-value = equal-is (t .«time_scale») (wholeF s) s (whole-is binary32 s (omega arith)) (i .scale-from) (i .scale-is)
 
   pub delay-value : 1 ≤ W → Is (t .delay) W
-  delay-value h = equal-is (t .delay) (whole W) W (whole-is binary32 W (omega arith)) h (i .delay-is)
+  delay-value h = equal-is (t .delay) (wholeF W) W (whole-is binary32 W (omega arith)) h (i .delay-is)
 
   pub product-small : (n : ℕ) → n ≤ 524288 → n * s ≤ 8388608
   product-small n h = mul-le-mul {n₁ = n} {m₁ = s} {n₂ = 524288} {m₂ = 16} h (i .scale-to)
@@ -126,7 +126,7 @@ module _ (t : Tween) (D W s : ℕ) (i : Settings t D W s) where
   begins : Begins (t .looping) D W s (resetOf t)
   unfolding resetOf
   begins =
-      let above = sym (equal-above (t .delay) (whole W) W (whole-is binary32 W (omega (arith, i .delay-to))) (i .delay-is)) in
+      let above = sym (equal-above (t .delay) (wholeF W) W (whole-is binary32 W (omega (arith, i .delay-to))) (i .delay-is)) in
       by-test (Begins (t .looping) D W s) (withinOf t) _ _
       (λ _. record { settings = settings-stay (atStart t) t D W s i; looping-is = refl; at = started (lt zeroF (t .delay)) above }) (λ _. tt)
 

@@ -3,9 +3,9 @@ use Prim.Native.Nat.{ℕ, _+_, _-_, _*_, _/_, _≤_, min}
 use mathlib.Core.Path.{_≡_}
 use mathlib.Core.Bool.{Bool, true, false, cond}
 use mathlib.Core.List.{List, [], _∷_}
-use lib.IntN.{pos}
 use lib.Dec.{T, leb}
-use lib.Ieee.{Float, binary32, ofInt, eq}
+use lib.Ieee.{Float, eq}
+use Rattle.math.specs.Rounded.{wholeF}
 use Rattle.math.specs.Whole.{Is}
 use Rattle.loop_mode.specs.declared.Loop.{Loop}
 use Rattle.loop_mode.specs.declared.PassLimit.{PassLimit}
@@ -22,13 +22,9 @@ use Rattle.tween.specs.Calls.{resetOf, pauseOf, resumeOf}
 use Rattle.tween.specs.Update.{updateOf}
 use Rattle.tween.specs.Promises.{isCompleted}
 
--- the f32 that is the whole number n
-abbrev pub whole : ℕ → Float
-whole n = ofInt binary32 (pos n)
-
 -- x is the number n; a zero of either sign is 0
 abbrev pub equals : Float → ℕ → Bool
-equals x n = eq x (whole n)
+equals x n = eq x (wholeF n)
 
 -- what is done to the tween: an update by a whole step, a pause, a resume
 pub data Act : Type 0 where
@@ -69,7 +65,7 @@ changedTo h (changed.Done u) = record { tween = u; taken = h .taken; made = h .m
 changedTo h (changed.Refused u r) = record { tween = u; taken = h .taken; made = h .made }
 
 abbrev pub after : Past → Act → Past
-after h (step n) = updatedBy h n (updateOf (h .tween) (whole n))
+after h (step n) = updatedBy h n (updateOf (h .tween) (wholeF n))
 after h pause = changedTo h (pauseOf (h .tween))
 after h resume = changedTo h (resumeOf (h .tween))
 
@@ -119,7 +115,7 @@ pub record Holds (l : Loop) (D s A : ℕ) (h : Past) : Type 0 where
   -- it is Completed exactly when A / D comes to the pass limit
   pub completed-is : isCompleted (h .tween .state) ≡ reaches (limitOf l) (A / D)
   -- "no update reports more than its step times s / D, plus 1": the next one; each update is the next one of the history before it
-  pub next-few : (n : ℕ) → n ≤ 524288 → foldsIn (updateOf (h .tween) (whole n)) * D ≤ n * s + D
+  pub next-few : (n : ℕ) → n ≤ 524288 → foldsIn (updateOf (h .tween) (wholeF n)) * D ≤ n * s + D
 
 -- the demand: t is the tween that was reset, and u the tween as the reset left it
 abbrev pub Demand3 : Type 0

@@ -14,7 +14,7 @@ use lib.Ieee.{Float, binary32, lt, le, eq, isNan, ofInt, ofBits}
 use denote.Floats.{passes as holds}
 use Rattle.math.specs.Whole.{Is}
 use Rattle.math.specs.Rounded.{_⊕_, _⊗_, zeroF, topF}
-use Rattle.math.specs.Range.{valueOf, clamp01Of, maxZeroOf}
+use Rattle.math.specs.Range.{isValue, clamp01Of, maxZeroOf}
 use Rattle.math.proofs.Choice.{by-test, and-both}
 use Rattle.math.proofs.Order.{le-numbers, le-chain, lt-le, lt-le-chain, lt-of-not-le, le-of-not-lt}
 use Rattle.math.proofs.Upward.{Up, add-up, mul-up, max-zero-up}
@@ -29,7 +29,7 @@ use Rattle.loop_mode.specs.declared.Loop.{Loop}
 use Rattle.loop_mode.specs.declared.Loop.the-variants.{Once, Times, Forever, PingPong, PingPongTimes}
 use Rattle.loop_mode.specs.Passes as passes
 use Rattle.frames.specs.declared.frame.Keyframe.{Keyframe}
-use Rattle.frames.specs.Limits.{timeOf, frameOf, framesAfter, framesOf, beforeAll}
+use Rattle.frames.specs.Limits.{isTime, frameWithin, framesAfter, framesWithin, beforeAll}
 use Rattle.frames.specs.declared.frame.Put.{Put}
 use Rattle.frames.specs.Sampling.{durationOf, lastOf}
 use Rattle.frames.specs.Pushing.{pushedOf, putOf}
@@ -48,7 +48,7 @@ use Rattle.keyframe.proofs.Records.{few-frames, frames-fine, elapsed-fi
 use Rattle.keyframe.proofs.Changes.{by-push}
 use Rattle.keyframe.proofs.Moves.{by-update}
 
-make : (t : Track) → t .count ≤ 64 → framesOf (framesIn t) ≡ true → Clock (t .elapsed) → modeFits (t .looping) (baseOf t) ≡ true → Fine t
+make : (t : Track) → t .count ≤ 64 → framesWithin (framesIn t) ≡ true → Clock (t .elapsed) → modeFits (t .looping) (baseOf t) ≡ true → Fine t
 unfolding withinOf clockFits
 make t n f c m = rw (le-leb (t .count) 64 n, f, clock-test (t .elapsed) c, m)
 
@@ -88,7 +88,7 @@ end-timely Forever base c h = tt
 end-timely PingPong base c h = tt
 end-timely (PingPongTimes n) base c h = passes-clock base n c h
 
-duration-clock : (l : List Keyframe) → framesOf l ≡ true → Clock (durationOf l)
+duration-clock : (l : List Keyframe) → framesWithin l ≡ true → Clock (durationOf l)
 unfolding durationOf
 duration-clock l f =
     by-test Clock (eqb (length l) 0) zeroF (lastOf l .time) (λ _. zero-clock)
@@ -157,11 +157,11 @@ before-zero : T (lt beforeAll zeroF)
 unfolding lt ofBits
 before-zero = tt
 
-module _ (t : Track) (fine : Fine t) (k : Keyframe) (good : frameOf k ≡ true) (fits : modeFits (t .looping) (laterOf (baseOf t) (k .time)) ≡ true) where
+module _ (t : Track) (fine : Fine t) (k : Keyframe) (good : frameWithin k ≡ true) (fits : modeFits (t .looping) (laterOf (baseOf t) (k .time)) ≡ true) where
   clock : Clock (k .time)
   clock = time-clock (k .time) (time-fine k good)
 
-  grown-fine : framesOf (pushedOf k (framesIn t)) ≡ true
+  grown-fine : framesWithin (pushedOf k (framesIn t)) ≡ true
   grown-fine = pushed-fine k good beforeAll (framesIn t) (lt-le-chain beforeAll zeroF (k .time) before-zero (clock .0)) (frames-fine t fine)
 
   grown-mode : modeFits (t .looping) (durationOf (pushedOf k (framesIn t))) ≡ true
@@ -178,15 +178,15 @@ module _ (t : Track) (fine : Fine t) (k : Keyframe) (good : frameOf k ≡ true) 
       (λ _. fine)
 
 pub push-within : (t : Track) → Fine t → (time value : Float) (e : Easing) → Fine (pushOf t time value e .track)
-unfolding takesOf frameOf fitsRecordOf
+unfolding takesOf frameWithin fitsRecordOf
 push-within t fine time value e =
     by-push (λ (r : Changed). Fine (r .track)) t time value e (λ _. fine)
     (λ s p h. placed-within t fine (record { time = storedOf time; value = value; easing = e }) (framed (storedOf time) h s p) (fitting (storedOf time) h))
   where
-    framed : (x : Float) → takesOf t x value ≡ true → suppliedOf e ≡ true → params.withinOf (params.paramsOf e) ≡ true → frameOf (record { time = x; value = value; easing = e }) ≡ true
+    framed : (x : Float) → takesOf t x value ≡ true → suppliedOf e ≡ true → params.withinOf (params.paramsOf e) ≡ true → frameWithin (record { time = x; value = value; easing = e }) ≡ true
     framed x h s p =
-        let a = and-both (timeOf x && valueOf value) (modeFits (t .looping) (laterOf (baseOf t) x)) h .0 in
-        rw (and-both (timeOf x) (valueOf value) a .0, and-both (timeOf x) (valueOf value) a .1, s, p)
+        let a = and-both (isTime x && isValue value) (modeFits (t .looping) (laterOf (baseOf t) x)) h .0 in
+        rw (and-both (isTime x) (isValue value) a .0, and-both (isTime x) (isValue value) a .1, s, p)
 
     fitting : (x : Float) → takesOf t x value ≡ true → modeFits (t .looping) (laterOf (baseOf t) x) ≡ true
-    fitting x h = and-both (timeOf x && valueOf value) (modeFits (t .looping) (laterOf (baseOf t) x)) h .1
+    fitting x h = and-both (isTime x && isValue value) (modeFits (t .looping) (laterOf (baseOf t) x)) h .1

@@ -9,7 +9,7 @@ use lib.ListN.{length, take, drop, getD}
 use lib.Seq.{take-at}
 use lib.Ieee.{Float, binary32, fits, lt, le, eq, ofBits}
 use Rattle.math.specs.Rounded.{_⊕_, zeroF, topF}
-use Rattle.math.specs.Range.{finiteOf, maxZeroOf}
+use Rattle.math.specs.Range.{isFinite, maxZeroOf}
 use Rattle.math.proofs.Choice.{by-test}
 use Rattle.math.proofs.Order.{equal-le, not-lt-of-le}
 use Rattle.refusal.specs.declared.Refusal.{Refusal}
@@ -17,7 +17,7 @@ use Rattle.refusal.specs.declared.Refusal.the-variants.{ElapsedTooLong, TrackFu
 use Rattle.easing.specs.declared.kinds.Easing.{Easing}
 use Rattle.frames.specs.declared.frame.Keyframe.{Keyframe}
 use Rattle.frames.specs.declared.frame.Put.{Put}
-use Rattle.frames.specs.Limits.{framesOf, beforeAll, noFrame}
+use Rattle.frames.specs.Limits.{framesWithin, beforeAll, noFrame}
 use Rattle.frames.specs.Sampling.{cutOf, lastOf, atOf, firstOf, sampleOf}
 use Rattle.frames.specs.Pushing.{pushedOf, putOf}
 use Rattle.frames.proofs.Rising.{rising}
@@ -70,7 +70,7 @@ placed-sampled t k F =
     (λ _ _ fine. go l (pushed-in k (framesIn t)) (take (length l) (l ++ drop (length l) (t .frames))) (take-at l (drop (length l) (t .frames)) (length l) refl) (frames-fine _ fine))
     (λ _ h _. never TrackFull h)
   where
-    go : (l : List Keyframe) → (p : ℕ) × ((p < length l) × (getD l p noFrame ≡ k)) → (m : List Keyframe) → m ≡ l → framesOf m ≡ true → eq (sampleOf m (k .time)) (k .value) ≡ true
+    go : (l : List Keyframe) → (p : ℕ) × ((p < length l) × (getD l p noFrame ≡ k)) → (m : List Keyframe) → m ≡ l → framesWithin m ≡ true → eq (sampleOf m (k .time)) (k .value) ≡ true
     go l (p, (h, e)) m s fine =
         rw s
         (subst (λ (x : Keyframe). eq (sampleOf l (x .time)) (x .value) ≡ true) e (sample-own l (rw s at fine) p h (subst⁻¹ (λ (x : Keyframe). T (fits binary32 (x .value))) e F)))
@@ -88,7 +88,7 @@ module _ (t : Track) (fine : Fine t) where
   ascending = rising beforeAll (framesIn t) (frames-fine t fine)
 
   module _ (some : 0 < length (framesIn t)) where
-    pub sample-real : (secs : Float) → T (finiteOf (sampleOf (framesIn t) secs))
+    pub sample-real : (secs : Float) → T (isFinite (sampleOf (framesIn t) secs))
     sample-real = sample-finite (framesIn t) (frames-fine t fine) some
 
     pub at-first : (secs : Float) → T (le secs (firstOf (framesIn t) .time)) → sampleOf (framesIn t) secs ≡ firstOf (framesIn t) .value

@@ -14,12 +14,12 @@ use denote.Laws.{Is}
 use denote.Struct.Declared.{row}
 use denote.Struct.Laws.{owed}
 use Rattle.math.specs.Rounded.{zeroF, topF}
-use Rattle.math.specs.Range.{betweenOf}
+use Rattle.math.specs.Range.{isBetween}
 use Rattle.math.proofs.Choice.{and-both}
 use Rattle.loop_mode.specs.declared.Loop.{Loop}
 use Rattle.loop_mode.specs.Passes as passes
 use Rattle.frames.specs.declared.frame.Keyframe.{Keyframe}
-use Rattle.frames.specs.Limits.{frameOf, framesAfter, framesOf, noFrame}
+use Rattle.frames.specs.Limits.{frameWithin, framesAfter, framesWithin, noFrame}
 use Rattle.frames.specs.Sampling.{durationOf}
 use Rattle.frames.proofs.Walks.{front, back}
 use Rattle.keyframe.specs.declared.types.Track.{Track}
@@ -45,7 +45,7 @@ module _ (m : Loop) (base : Float) where
 -- the frames
 module _ (fs : List Keyframe) (n : ℕ) (fit : n ≤ length fs) where
   pub after-step : (i : ℕ) (p : Float) → i < n
-      → framesAfter p (drop i (take n fs)) ≡ frameOf (getD fs i noFrame) && lt p (getD fs i noFrame .time) && framesAfter (getD fs i noFrame .time) (drop (i + 1) (take n fs))
+      → framesAfter p (drop i (take n fs)) ≡ frameWithin (getD fs i noFrame) && lt p (getD fs i noFrame .time) && framesAfter (getD fs i noFrame .time) (drop (i + 1) (take n fs))
   unfolding framesAfter
   after-step i p h = rw (front fs n fit noFrame i h)
 
@@ -71,34 +71,34 @@ module _ (t : Track) where
   too-many h = rw (lt-leb (t .count) 64 h)
 
   module _ (few : t .count ≤ 64) where
-    pub broken : false ≡ framesOf (framesIn t) → false ≡ withinOf t
+    pub broken : false ≡ framesWithin (framesIn t) → false ≡ withinOf t
     unfolding withinOf
     broken e = rw (le-leb (t .count) 64 few, ← e)
 
-    pub clocked : framesOf (framesIn t) ≡ true → (base : Float) → baseOf t ≡ base → clockFits (t .elapsed) (t .looping) base ≡ withinOf t
+    pub clocked : framesWithin (framesIn t) ≡ true → (base : Float) → baseOf t ≡ base → clockFits (t .elapsed) (t .looping) base ≡ withinOf t
     unfolding withinOf
     clocked f base e = rw (le-leb (t .count) 64 few, f, e)
 
 -- what a record within its limits has
 module _ (t : Track) (fine : withinOf t ≡ true) where
-  counted : leb (t .count) 64 && framesOf (framesIn t) ≡ true
+  counted : leb (t .count) 64 && framesWithin (framesIn t) ≡ true
   unfolding withinOf
-  counted = and-both (leb (t .count) 64 && framesOf (framesIn t)) (clockFits (t .elapsed) (t .looping) (baseOf t)) fine .0
+  counted = and-both (leb (t .count) 64 && framesWithin (framesIn t)) (clockFits (t .elapsed) (t .looping) (baseOf t)) fine .0
 
   clock : clockFits (t .elapsed) (t .looping) (baseOf t) ≡ true
   unfolding withinOf
-  clock = and-both (leb (t .count) 64 && framesOf (framesIn t)) (clockFits (t .elapsed) (t .looping) (baseOf t)) fine .1
+  clock = and-both (leb (t .count) 64 && framesWithin (framesIn t)) (clockFits (t .elapsed) (t .looping) (baseOf t)) fine .1
 
   pub few-frames : t .count ≤ 64
-  few-frames = leb-true (t .count) 64 (and-both (leb (t .count) 64) (framesOf (framesIn t)) counted .0)
+  few-frames = leb-true (t .count) 64 (and-both (leb (t .count) 64) (framesWithin (framesIn t)) counted .0)
 
-  pub frames-fine : framesOf (framesIn t) ≡ true
-  frames-fine = and-both (leb (t .count) 64) (framesOf (framesIn t)) counted .1
+  pub frames-fine : framesWithin (framesIn t) ≡ true
+  frames-fine = and-both (leb (t .count) 64) (framesWithin (framesIn t)) counted .1
 
-  pub elapsed-fine : betweenOf zeroF topF (t .elapsed) ≡ true
+  pub elapsed-fine : isBetween zeroF topF (t .elapsed) ≡ true
   unfolding clockFits
-  elapsed-fine = and-both (betweenOf zeroF topF (t .elapsed)) (modeFits (t .looping) (baseOf t)) clock .0
+  elapsed-fine = and-both (isBetween zeroF topF (t .elapsed)) (modeFits (t .looping) (baseOf t)) clock .0
 
   pub mode-fine : modeFits (t .looping) (baseOf t) ≡ true
   unfolding clockFits
-  mode-fine = and-both (betweenOf zeroF topF (t .elapsed)) (modeFits (t .looping) (baseOf t)) clock .1
+  mode-fine = and-both (isBetween zeroF topF (t .elapsed)) (modeFits (t .looping) (baseOf t)) clock .1

@@ -7,10 +7,10 @@ use lib.ListN.{length}
 use lib.Ieee.{Float}
 use Rattle.refusal.specs.declared.Refusal.the-variants.{RecordBreaksLimit, NoFrames, OutputTooShort}
 use Rattle.refusal.specs.Number.{numberOf}
+use Rattle.refusal.specs.Refusing.{unless}
 use Rattle.frames.specs.Sampling.{filledOf}
 use Rattle.keyframe.specs.declared.types.Track.{Track}
 use Rattle.keyframe.specs.Limits.{framesIn, withinOf}
-use Rattle.refusal.specs.Refusing.{unless}
 
 -- "The refusal number, 0 for none": 4, 10, 12
 unfoldable pub batchNumber : Track → List Float → List Float → ℕ

@@ -4,16 +4,15 @@ use mathlib.Core.Path.{_≡_}
 use mathlib.Core.Bool.{Bool, true, _&&_}
 use mathlib.Core.List.{List}
 use lib.Dec.{leb}
-use lib.IntN.{pos}
 use lib.ListN.{take}
-use lib.Ieee.{Float, binary32, le, ofInt}
-use Rattle.math.specs.Rounded.{_⊗_, zeroF, topF}
-use Rattle.math.specs.Range.{betweenOf}
+use lib.Ieee.{Float, le}
+use Rattle.math.specs.Rounded.{_⊗_, wholeF, zeroF, topF}
+use Rattle.math.specs.Range.{isBetween}
 use Rattle.loop_mode.specs.declared.Loop.{Loop}
 use Rattle.loop_mode.specs.declared.Loop.the-variants.{Once, Times, Forever, PingPong, PingPongTimes}
 use Rattle.loop_mode.specs.Passes as passes
 use Rattle.frames.specs.declared.frame.Keyframe.{Keyframe}
-use Rattle.frames.specs.Limits.{framesOf}
+use Rattle.frames.specs.Limits.{framesWithin}
 use Rattle.frames.specs.Sampling.{durationOf}
 use Rattle.keyframe.specs.declared.types.Track.{Track}
 use Rattle.keyframe.specs.declared.types.End.{End}
@@ -29,7 +28,7 @@ baseOf t = durationOf (framesIn t)
 
 -- "last time times passes, rounded"
 abbrev pub overPasses : Float → ℕ → Float
-overPasses base n = base ⊗ ofInt binary32 (pos (passes.passesOf n))
+overPasses base n = base ⊗ wholeF (passes.passesOf n)
 
 -- "in the modes with an end its total"; Once takes the last time itself, as the source does
 unfoldable pub endOf : Loop → Float → End
@@ -50,10 +49,10 @@ modeFits m base = passes.withinOf m && totalFits (endOf m base)
 
 -- "Its elapsed is 0 to 16,777,216"
 unfoldable pub clockFits : Float → Loop → Float → Bool
-clockFits elapsed m base = betweenOf zeroF topF elapsed && modeFits m base
+clockFits elapsed m base = isBetween zeroF topF elapsed && modeFits m base
 
 unfoldable pub withinOf : Track → Bool
-withinOf t = leb (t .count) 64 && framesOf (framesIn t) && clockFits (t .elapsed) (t .looping) (baseOf t)
+withinOf t = leb (t .count) 64 && framesWithin (framesIn t) && clockFits (t .elapsed) (t .looping) (baseOf t)
 
 -- a track within its limits
 abbrev pub Fine : Track → Type 0

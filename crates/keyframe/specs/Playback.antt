@@ -2,9 +2,10 @@
 use mathlib.Core.Bool.{Bool, false, cond, _||_}
 use lib.Dec.{ltb}
 use lib.Ieee.{Float, inf, binary32, rem, le, eq}
-use Rattle.math.specs.Rounded.{_⊖_, _⊗_, _⊘_, zeroF, oneF, twoF}
-use Rattle.math.specs.Range.{clamp01Of}
+use Rattle.math.specs.Rounded.{_⊖_, _⊗_, zeroF, twoF}
+use Rattle.math.specs.Blend.{ratioOf}
 use Rattle.refusal.specs.declared.Refusal.the-variants.{RecordBreaksLimit}
+use Rattle.refusal.specs.Refusing.{unless}
 use Rattle.units.specs.declared.InSeconds.{InSeconds}
 use Rattle.units.specs.declared.InSeconds.the-variants as seconds
 use Rattle.units.specs.declared.InProgress.{InProgress}
@@ -18,7 +19,6 @@ use Rattle.keyframe.specs.declared.types.End.the-variants.{At, Never}
 use Rattle.keyframe.specs.declared.types.Completion.{Completion}
 use Rattle.keyframe.specs.declared.types.Completion.the-variants as completion
 use Rattle.keyframe.specs.Limits.{baseOf, endOf, withinOf}
-use Rattle.refusal.specs.Refusing.{unless}
 
 -- the remainder is exact
 infixl 7 _%%_
@@ -58,10 +58,6 @@ playbackOf Never base = cond (eq base zeroF) zeroF (inf false)
 
 unfoldable pub playbackIn : Track → InSeconds
 playbackIn t = inSeconds t (playbackOf (endOf (t .looping) (baseOf t)) (baseOf t))
-
--- how far x is along a span, which counts as gone through where it is 0
-abbrev pub ratioOf : Float → Float → Float
-ratioOf x span = cond (eq span zeroF) oneF (clamp01Of (x ⊘ span))
 
 -- of the total; in the modes without one, of the pass
 abbrev pub alongOf : End → Track → Float

@@ -5,9 +5,10 @@ use mathlib.Core.List.{List}
 use lib.ListN.{replicate}
 use lib.Ieee.{Float, lt, eq}
 use Rattle.math.specs.Rounded.{zeroF}
-use Rattle.math.specs.Range.{valueOf}
+use Rattle.math.specs.Range.{isValue}
 use Rattle.refusal.specs.declared.Refusal.{Refusal}
 use Rattle.refusal.specs.declared.Refusal.the-variants.{RecordBreaksLimit, EasingNotSupplied, EasingParameter, TrackLimit, TrackFull}
+use Rattle.refusal.specs.Refusing.{unless}
 use Rattle.easing.specs.declared.kinds.Easing.{Easing}
 use Rattle.easing.specs.Kinds.{suppliedOf}
 use Rattle.easing.specs.Params as params
@@ -15,13 +16,12 @@ use Rattle.loop_mode.specs.declared.Loop.{Loop}
 use Rattle.loop_mode.specs.declared.Loop.the-variants.{Once}
 use Rattle.frames.specs.declared.frame.Keyframe.{Keyframe}
 use Rattle.frames.specs.declared.frame.Put.{Put}
-use Rattle.frames.specs.Limits.{timeOf, blank}
+use Rattle.frames.specs.Limits.{isTime, blank}
 use Rattle.frames.specs.Pushing.{putOf}
 use Rattle.keyframe.specs.declared.types.Track.{Track}
 use Rattle.keyframe.specs.declared.types.Changed.{Changed}
 use Rattle.keyframe.specs.declared.types.Outcome.the-variants.{Done, Refused}
 use Rattle.keyframe.specs.Limits.{baseOf, modeFits, withinOf}
-use Rattle.refusal.specs.Refusing.{unless}
 
 -- "Each refusal hands back the record unchanged .. and the number"
 abbrev pub refused : Track → Refusal → Changed
@@ -52,7 +52,7 @@ laterOf base time = cond (lt time base) base time
 
 -- "a pushed time or value breaks a frame limit, or a push .. would break a track's pass or total limit"
 unfoldable pub takesOf : Track → Float → Float → Bool
-takesOf t time value = timeOf time && valueOf value && modeFits (t .looping) (laterOf (baseOf t) time)
+takesOf t time value = isTime time && isValue value && modeFits (t .looping) (laterOf (baseOf t) time)
 
 -- "push and a change of mode clear completion and keep elapsed, loop_count and the places behind the frames"
 abbrev pub remade : Track → List Keyframe → ℕ → Loop → Track

@@ -2,12 +2,12 @@
 use lib.Dec.{ltb}
 use lib.Ieee.{Float}
 use Rattle.refusal.specs.declared.Refusal.the-variants.{RecordBreaksLimit, NoFrames}
+use Rattle.refusal.specs.Refusing.{unless}
 use Rattle.easing.specs.declared.answers.Eased.{Eased}
 use Rattle.easing.specs.declared.answers.Eased.the-variants.{Value, Refused}
 use Rattle.frames.specs.Sampling.{sampleOf}
 use Rattle.keyframe.specs.declared.types.Track.{Track}
 use Rattle.keyframe.specs.Limits.{framesIn, withinOf}
-use Rattle.refusal.specs.Refusing.{unless}
 use Rattle.keyframe.specs.Playback.{activeOf}
 
 -- 4, then 10: "sampling a track with no frames"

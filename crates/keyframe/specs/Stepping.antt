@@ -7,6 +7,7 @@ use Rattle.math.specs.Range.{clamp01Of, maxZeroOf}
 use Rattle.math.specs.Whole.{wholePartOf}
 use Rattle.refusal.specs.declared.Refusal.{Refusal}
 use Rattle.refusal.specs.declared.Refusal.the-variants.{ProgressIsNan, RecordBreaksLimit, StepTooLong, StepLost, ElapsedTooLong}
+use Rattle.refusal.specs.Refusing.{unless}
 use Rattle.loop_mode.specs.declared.Loop.{Loop}
 use Rattle.loop_mode.specs.declared.Loop.the-variants.{Once, Times, Forever, PingPong, PingPongTimes}
 use Rattle.loop_mode.specs.Passes.{passesOf}
@@ -17,7 +18,6 @@ use Rattle.keyframe.specs.declared.types.Updated.{Updated}
 use Rattle.keyframe.specs.declared.types.Stepped.the-variants as stepped
 use Rattle.keyframe.specs.declared.types.End.{End}
 use Rattle.keyframe.specs.declared.types.End.the-variants.{At, Never}
-use Rattle.refusal.specs.Refusing.{unless}
 use Rattle.keyframe.specs.Limits.{baseOf, endOf, withinOf}
 use Rattle.keyframe.specs.Pushing.{refused, changed}
 use Rattle.keyframe.specs.Playback.{doneOf}

@@ -1,7 +1,7 @@
 // Where a track stands.
 ghost use mathlib.Core.Path.{_≡_};
 ghost use Prim.Native.Nat.{_≤_};
-ghost use Rattle.keyframe.specs.Playback.{bounceOf, phaseOf, activeOf, activeTimeOf, durationIn, playbackOf, playbackIn, ratioOf, alongOf, progressOf, doneOf, completeOf};
+ghost use Rattle.keyframe.specs.Playback.{bounceOf, phaseOf, activeOf, activeTimeOf, durationIn, playbackOf, playbackIn, alongOf, progressOf, doneOf, completeOf};
 use crate::limits::end_of;
 use crate::limits::last_time;
 use crate::types::Completion;
@@ -67,22 +67,13 @@ fn playback(end: End, base: f32) -> f32
     }
 }
 
-fn ratio(x: f32, span: f32) -> f32
-    ensures { λ r. ⌜ r ≡ ratioOf x span ⌝ }
-{
-    if span == 0.0 {
-        return 1.0;
-    }
-    math::clamp01(x / span)
-}
-
 fn along(end: End, track: Track) -> f32
     requires { ⌜ track .count ≤ 64 ⌝ }
     ensures { λ r. ⌜ r ≡ alongOf end track ⌝ }
 {
     match end {
-        End::At(total) => ratio(track.elapsed, total),
-        End::Never => ratio(active(track), last_time(track)),
+        End::At(total) => math::ratio(track.elapsed, total),
+        End::Never => math::ratio(active(track), last_time(track)),
     }
 }
 

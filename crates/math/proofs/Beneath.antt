@@ -11,7 +11,7 @@ use lib.Ieee.Fits.{down-pos}
 use lib.Ieee.Order.{round-mono, le-of-values}
 use Rattle.math.specs.Whole.{Is}
 use Rattle.math.specs.Rounded.{zeroF, _⊗_}
-use Rattle.math.specs.Range.{finiteOf, Within, AtMost}
+use Rattle.math.specs.Range.{isFinite, Within, AtMost}
 use Rattle.math.proofs.Fitting.{rounds-none, round-held}
 use Rattle.math.proofs.Order.{le-sizes, le-chain, times-none}
 use Rattle.math.proofs.Upward.{Up, up-none}
@@ -36,7 +36,7 @@ none-le s a c h C = subst⁻¹ (λ (z : Float). T (le z zeroF)) (rounds-none bin
     go true = unfold le lt eq ofBits in tt
     go false = unfold le lt eq ofBits in tt
 
-pub share-le : (x y : Float) → Within x → T (fits binary32 y) → Up y → T (finiteOf y) → T (le (x ⊗ y) y)
+pub share-le : (x y : Float) → Within x → T (fits binary32 y) → Up y → T (isFinite y) → T (le (x ⊗ y) y)
 unfolding mul
 share-le nan y w t u p = absurd (within-at-most nan w)
 share-le (inf s) y w t u p = absurd (within-at-most (inf s) w)

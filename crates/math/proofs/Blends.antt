@@ -11,13 +11,13 @@ use lib.Ieee.{Float, nan, inf, fin, binary32, up, down, unlike, fits, round, sum
 use lib.Ieee.Fits.{down-pos, up-pos}
 use lib.Ieee.Exact.{HasValue}
 use Rattle.math.specs.Rounded.{_⊕_, _⊖_, _⊗_, zeroF}
-use Rattle.math.specs.Range.{finiteOf}
+use Rattle.math.specs.Range.{isFinite}
 use Rattle.math.specs.Blend.{blendOf}
 use Rattle.math.proofs.Fitting.{rounds-none, round-held}
 use Rattle.math.proofs.Zeros.{equal-none}
 
 -- a product with 0
-times-zero : (d c : Float) → T (finiteOf d) → eq c zeroF ≡ true → (s : Bool) × (d ⊗ c ≡ fin s 0 (pos 0))
+times-zero : (d c : Float) → T (isFinite d) → eq c zeroF ≡ true → (s : Bool) × (d ⊗ c ≡ fin s 0 (pos 0))
 unfolding mul eq ofBits
 times-zero nan c h k = absurd h
 times-zero (inf s) c h k = absurd h
@@ -62,7 +62,7 @@ sum-nothing true false a b c h k C = (false, rw (le-ltb a b (omega arith), le-lt
 sum-nothing false true a b c h k C = (false, rw (le-ltb a b (omega arith)) (rounds-none binary32 false (a - b) c (omega arith) C))
 
 -- a value of binary32 and a 0
-plus-zero : (a : Float) (s : Bool) → T (fits binary32 a) → T (finiteOf a) → eq (a ⊕ fin s 0 (pos 0)) a ≡ true
+plus-zero : (a : Float) (s : Bool) → T (fits binary32 a) → T (isFinite a) → eq (a ⊕ fin s 0 (pos 0)) a ≡ true
 unfolding add
 plus-zero nan s F h = absurd h
 plus-zero (inf t) s F h = absurd h
@@ -75,7 +75,7 @@ plus-zero (fin t (suc m) e) s F h =
     rw (z, mul-one (suc m * up e), mul-one (down e)) (value-eq (round binary32 t (suc m * up e) (down e)) t (suc m) e (round-held binary32 t (suc m) e F))
 
 -- a blend by 0
-pub blend-zero : (a b c : Float) → T (fits binary32 a) → T (finiteOf a) → T (finiteOf (b ⊖ a)) → eq c zeroF ≡ true → eq (blendOf a b c) a ≡ true
+pub blend-zero : (a b c : Float) → T (fits binary32 a) → T (isFinite a) → T (isFinite (b ⊖ a)) → eq c zeroF ≡ true → eq (blendOf a b c) a ≡ true
 blend-zero a b c F h d z =
     let p = times-zero (b ⊖ a) c d z in
     rw (p .1) (plus-zero a (p .0) F h)

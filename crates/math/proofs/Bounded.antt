@@ -5,7 +5,7 @@ use mathlib.Core.Path.{refl}
 use lib.Dec.{T, lit≤}
 use lib.Ieee.{Float, binary32, lt, le, eq, ofBits}
 use Rattle.math.specs.Rounded.{_⊕_, _⊖_, _⊗_, _⊘_, zeroF, halfF, oneF, twoF, topF}
-use Rattle.math.specs.Range.{Within, valueOf, AtMost}
+use Rattle.math.specs.Range.{Within, isValue, AtMost}
 use Rattle.math.specs.Whole.{Is}
 use Rattle.math.specs.Blend.{blendOf}
 use Rattle.math.proofs.Wholes.{whole-is, power-is}
@@ -64,7 +64,7 @@ pub top-is : Is topF 16777216
 unfolding ofBits
 top-is = (refl, refl)
 
-pub value-most : (x : Float) → T (valueOf x) → AtMost 16777216 x
+pub value-most : (x : Float) → T (isValue x) → AtMost 16777216 x
 value-most x h = size-at-most 16777216 x topF top-is h
 
 -- a blend of two values by a c up to 2 ^ 27

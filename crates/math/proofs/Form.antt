@@ -9,7 +9,7 @@ use lib.IntN.{ℤ, pos}
 use lib.Dec.{T, leb, ltb, eqb}
 use lib.Ieee.{Float, nan, inf, fin, Format, up, down, lt, le, eq, ne, neg, fits, isNan, ofBits}
 use Rattle.math.specs.Rounded.{zeroF}
-use Rattle.math.specs.Range.{sizeOf, finiteOf, betweenOf}
+use Rattle.math.specs.Range.{sizeOf, isFinite, isBetween}
 use Rattle.math.proofs.Fitting.{no-size}
 use Rattle.math.proofs.Order.{le-sizes}
 use Rattle.math.proofs.Zeros.{equal-none}
@@ -24,7 +24,7 @@ ne-self (fin true m e) = simp (eq-eqb (m * up e * down e) (m * up e * down e) re
 ne-self (fin false m e) = simp (eq-eqb (m * up e * down e) (m * up e * down e) refl)
 
 -- above -infinity and below +infinity
-pub between-infinities : (x : Float) → lt (inf true) x && lt x (inf false) ≡ finiteOf x
+pub between-infinities : (x : Float) → lt (inf true) x && lt x (inf false) ≡ isFinite x
 unfolding lt
 between-infinities nan = refl
 between-infinities (inf true) = refl
@@ -74,7 +74,7 @@ size-above (fin false m e) h k = refl
 size-above (fin true m e) h k = absurd (not-less (m * up e * 1) (0 * 1 * down e) (none (down e)) h k)
 
 -- at most y in size: from -y to y
-pub size-between : (x : Float) (n : ℕ) (d : ℤ) → betweenOf (fin true n d) (fin false n d) x ≡ le (sizeOf x) (fin false n d)
+pub size-between : (x : Float) (n : ℕ) (d : ℤ) → isBetween (fin true n d) (fin false n d) x ≡ le (sizeOf x) (fin false n d)
 unfolding le lt eq
 size-between nan n d = refl
 size-between (inf true) n d = refl

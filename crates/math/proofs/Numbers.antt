@@ -9,7 +9,7 @@ use lib.Ieee.{Float, nan, inf, fin, Format, unlike, prec, emax, low, up, down, o
 use lib.Ieee.Fits.{round-is}
 use lib.Ieee.Order.{drop, kept}
 use Rattle.math.specs.Rounded.{zeroF}
-use Rattle.math.specs.Range.{sizeOf, finiteOf}
+use Rattle.math.specs.Range.{sizeOf, isFinite}
 use Rattle.math.proofs.Choice.{by-test}
 use Rattle.math.proofs.Order.{le-sizes, le-lt-chain}
 use Rattle.math.proofs.Zeros.{equal-none}
@@ -39,7 +39,7 @@ sum-number f s a t b c =
     by-test Number (Bool·beq s t) _ _ (λ _. round-number f s (a + b) c)
     (λ _. by-test Number (ltb a b) _ _ (λ _. round-number f t (b - a) c) (λ _. round-number f (s && ltb b a) (a - b) c))
 
-pub sub-number : (f : Format) (x y : Float) → T (finiteOf x) → isNan y ≡ false → isNan (sub f x y) ≡ false
+pub sub-number : (f : Format) (x y : Float) → T (isFinite x) → isNan y ≡ false → isNan (sub f x y) ≡ false
 unfolding sub neg add isNan
 sub-number f nan y p q = absurd p
 sub-number f (inf s) y p q = absurd p
@@ -47,7 +47,7 @@ sub-number f (fin s m e) nan p q = absurd (true≢false q)
 sub-number f (fin s m e) (inf t) p q = refl
 sub-number f (fin s m e) (fin t n d) p q = sum-number f s (m * up e * down d) (not t) (n * up d * down e) (down e * down d)
 
-pub div-number : (f : Format) (x y : Float) → T (finiteOf x) → T (finiteOf y) → eq y zeroF ≡ false → isNan (div f x y) ≡ false
+pub div-number : (f : Format) (x y : Float) → T (isFinite x) → T (isFinite y) → eq y zeroF ≡ false → isNan (div f x y) ≡ false
 unfolding div eq isNan ofBits
 div-number f nan y p q h = absurd p
 div-number f (inf s) y p q h = absurd p
@@ -58,7 +58,7 @@ div-number f (fin s m e) (fin false zero d) p q h = absurd (true≢false (sym (s
 div-number f (fin s m e) (fin t (suc n) d) p q h = rw (eqb·suc-zero n) (round-number f (unlike s t) (m * up e * down d) (suc n * up d * down e))
 
 -- what is not below a limit above 0 in size is not a zero
-pub not-zero : (y limit : Float) → T (finiteOf y) → T (lt zeroF limit) → lt (sizeOf y) limit ≡ false → eq y zeroF ≡ false
+pub not-zero : (y limit : Float) → T (isFinite y) → T (lt zeroF limit) → lt (sizeOf y) limit ≡ false → eq y zeroF ≡ false
 unfolding le lt eq ofBits
 not-zero nan limit p l h = absurd p
 not-zero (inf s) limit p l h = absurd p
@@ -72,7 +72,7 @@ not-zero (fin s m e) limit p l h = go (eq (fin s m e) zeroF) refl
         let none : a ≡ b = omega (arith, equal-none s m e k) in
         absurd (subst T h (le-lt-chain (fin false m e) zeroF limit (subst⁻¹ T (le-sizes false false a b) (le→leb a b (le-of-eq none))) l))
 
-pub finite-number : (x : Float) → T (finiteOf x) → isNan x ≡ false
+pub finite-number : (x : Float) → T (isFinite x) → isNan x ≡ false
 unfolding isNan
 finite-number nan p = absurd p
 finite-number (inf s) p = absurd p

@@ -12,7 +12,7 @@ use lib.Ieee.Fits.{down-pos}
 use lib.Ieee.Order.{round-mono}
 use Rattle.math.specs.Whole.{Is}
 use Rattle.math.specs.Rounded.{_⊕_, _⊖_, _⊗_, zeroF, halfF, oneF, twoF}
-use Rattle.math.specs.Range.{finiteOf, clampOf, clamp01Of, Within, AtMost}
+use Rattle.math.specs.Range.{isFinite, clampOf, clamp01Of, Within, AtMost}
 use Rattle.math.proofs.Choice.{by-test}
 use Rattle.math.proofs.Order.{le-sizes, not-lt-of-le, le-of-not-lt, le-numbers, le-self}
 use Rattle.math.proofs.Upward.{Up, up-none, sub-up, square-up}
@@ -49,7 +49,7 @@ one-held = whole-is binary32 1 (lit≤ tt)
 pub within-at-most : (x : Float) → Within x → AtMost 1 x
 within-at-most x w = up-to 1 x oneF one-is (w .0) (w .1)
 
-pub within-finite : (x : Float) → Within x → T (finiteOf x)
+pub within-finite : (x : Float) → Within x → T (isFinite x)
 within-finite x w = at-most-finite 1 x (within-at-most x w)
 
 pub at-most-within : (x : Float) → Up x → AtMost 1 x → Within x

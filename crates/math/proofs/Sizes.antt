@@ -15,14 +15,14 @@ use lib.Pow.{pow-mono}
 use lib.Ieee.Order.{drop, kept, round-mono}
 use Rattle.math.specs.Whole.{Is}
 use Rattle.math.specs.Rounded.{zeroF, oneF}
-use Rattle.math.specs.Range.{finiteOf, sizeOf, AtMost}
+use Rattle.math.specs.Range.{isFinite, sizeOf, AtMost}
 use Rattle.math.proofs.Choice.{by-test}
 use Rattle.math.proofs.Numbers.{finite-number}
 use Rattle.math.proofs.Order.{le-sizes, le-chain, times-none}
 use Rattle.math.proofs.Upward.{Up, up-none, none-of, round-up}
 use Rattle.math.proofs.Wholes.{zero-is, le-is, fraction-le, le-fraction}
 
-pub at-most-finite : (n : ℕ) (x : Float) → AtMost n x → T (finiteOf x)
+pub at-most-finite : (n : ℕ) (x : Float) → AtMost n x → T (isFinite x)
 at-most-finite n nan h = absurd h
 at-most-finite n (inf s) h = absurd h
 at-most-finite n (fin s m e) h = tt

@@ -11,7 +11,7 @@ use lib.Ieee.{Float, nan, inf, fin, Format, up, down, round, sum, add, sub, mul,
 use lib.Ieee.Fits.{down-pos}
 use lib.Ieee.Order.{round-mono}
 use Rattle.math.specs.Rounded.{zeroF}
-use Rattle.math.specs.Range.{finiteOf, maxZeroOf}
+use Rattle.math.specs.Range.{isFinite, maxZeroOf}
 use Rattle.math.proofs.Fitting.{rounds-none}
 use Rattle.math.proofs.Order.{leq, le-sizes, le-numbers, lt-le, times-none}
 
@@ -86,7 +86,7 @@ add-up f (fin s m e) (fin t n d) h k =
     (either-sign s t (m * up e) (n * up d) (down d) (down e) (none-of s m e h) (none-of t n d k))
 
 -- x less a y that is at most x
-pub sub-up : (f : Format) (x y : Float) → T (finiteOf y) → T (le y x) → Up (sub f x y)
+pub sub-up : (f : Format) (x y : Float) → T (isFinite y) → T (le y x) → Up (sub f x y)
 unfolding sub neg add le lt eq ofBits
 sub-up f x nan p h = absurd p
 sub-up f x (inf t) p h = absurd p
@@ -99,7 +99,7 @@ sub-up f (fin s m e) (fin t n d) p h =
     (subst T (le-sizes t s (n * up d * down e) (m * up e * down d)) h))
 
 -- products
-pub mul-up : (f : Format) (x y : Float) → T (finiteOf x) → T (finiteOf y) → Up x → Up y → Up (mul f x y)
+pub mul-up : (f : Format) (x y : Float) → T (isFinite x) → T (isFinite y) → Up x → Up y → Up (mul f x y)
 unfolding mul
 mul-up f nan y p q h k = absurd p
 mul-up f (inf s) y p q h k = absurd p
@@ -111,7 +111,7 @@ mul-up f (fin true m e) (fin false n d) p q h k = round-none f (m * up e * (n * 
 mul-up f (fin false m e) (fin true n d) p q h k =
     round-none f (m * up e * (n * up d)) (down e * down d) (mul-comm (m * up e) (n * up d) ∙ times-none (n * up d) (m * up e) (up-none n d k)) (mul-pos (down-pos e) (down-pos d))
 
-pub square-up : (f : Format) (x : Float) → T (finiteOf x) → Up (mul f x x)
+pub square-up : (f : Format) (x : Float) → T (isFinite x) → Up (mul f x x)
 unfolding mul
 square-up f nan p = absurd p
 square-up f (inf s) p = absurd p

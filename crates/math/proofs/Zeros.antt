@@ -10,7 +10,7 @@ use lib.Dec.{T, eqb, eqb·suc-zero}
 use lib.Ieee.{Float, nan, inf, fin, binary32, up, down, unlike, sum, add, sub, div, neg, lt, eq, ofBits}
 use lib.Ieee.Fits.{down-pos, up-pos}
 use Rattle.math.specs.Rounded.{_⊖_, _⊘_, zeroF}
-use Rattle.math.specs.Range.{finiteOf}
+use Rattle.math.specs.Range.{isFinite}
 use Rattle.math.proofs.Choice.{and-both}
 use Rattle.math.proofs.Fitting.{rounds-none}
 
@@ -29,7 +29,7 @@ none-equal s m e z = go s (eq-eqb (m * up e * 1) (0 * 1 * down e) (omega (arith,
     go false h k = rw h
     go true h k = rw (h, k)
 
-pub sub-self : (x : Float) → T (finiteOf x) → x ⊖ x ≡ zeroF
+pub sub-self : (x : Float) → T (isFinite x) → x ⊖ x ≡ zeroF
 unfolding sub neg add sum ofBits
 sub-self nan h = absurd h
 sub-self (inf s) h = absurd h
@@ -46,7 +46,7 @@ unlike-clear true = refl
 unlike-clear false = refl
 
 -- a zero keeps its sign
-pub either-zero-over : (s : Bool) (y : Float) → T (finiteOf y) → T (lt zeroF y) → fin s 0 (pos 0) ⊘ y ≡ fin s 0 (pos 0)
+pub either-zero-over : (s : Bool) (y : Float) → T (isFinite y) → T (lt zeroF y) → fin s 0 (pos 0) ⊘ y ≡ fin s 0 (pos 0)
 unfolding div lt ofBits
 either-zero-over s nan h k = absurd h
 either-zero-over s (inf t) h k = absurd h
@@ -57,6 +57,6 @@ either-zero-over s (fin false (suc m) e) h k =
     (rounds-none binary32 (unlike s false) (0 * 1 * down e) (suc m * up e * 1) (omega arith) (mul-pos (mul-pos (zero-lt-suc m) (up-pos e)) (zero-lt-suc 0))
     ∙ ap (λ (t : Bool). fin t 0 (pos 0)) (unlike-clear s))
 
-pub zero-over : (y : Float) → T (finiteOf y) → T (lt zeroF y) → zeroF ⊘ y ≡ zeroF
+pub zero-over : (y : Float) → T (isFinite y) → T (lt zeroF y) → zeroF ⊘ y ≡ zeroF
 unfolding ofBits
 zero-over y h k = either-zero-over false y h k

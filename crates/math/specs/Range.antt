@@ -28,18 +28,18 @@ sizeOf (inf s) = inf false
 sizeOf (fin s m e) = fin false m e
 
 -- neither a NaN nor an infinity
-abbrev pub finiteOf : Float → Bool
-finiteOf nan = false
-finiteOf (inf s) = false
-finiteOf (fin s m e) = true
+abbrev pub isFinite : Float → Bool
+isFinite nan = false
+isFinite (inf s) = false
+isFinite (fin s m e) = true
 
 -- "values finite, at most 16,777,216 in size": no NaN is at most anything
-abbrev pub valueOf : Float → Bool
-valueOf x = le (sizeOf x) topF
+abbrev pub isValue : Float → Bool
+isValue x = le (sizeOf x) topF
 
 -- from lo to hi, as numbers: a zero of either sign is 0
-abbrev pub betweenOf : Float → Float → Float → Bool
-betweenOf lo hi x = le lo x && le x hi
+abbrev pub isBetween : Float → Float → Float → Bool
+isBetween lo hi x = le lo x && le x hi
 
 -- finite, and at most n in size. `fin s m e` has the size m * up e / down e
 abbrev pub AtMost : ℕ → Float → Type 0

@@ -1,6 +1,7 @@
 -- Document 01, "What is ported": "binary32; each operation rounded once, to nearest even". The operators on which every formula is written, and the constants that all layers share.
 use Prim.Native.Nat.{ℕ}
-use lib.Ieee.{Float, binary32, add, sub, mul, div, ofBits}
+use lib.IntN.{pos}
+use lib.Ieee.{Float, binary32, add, sub, mul, div, ofBits, ofInt}
 
 infixl 6 _⊕_ _⊖_
 infixl 7 _⊗_ _⊘_
@@ -19,6 +20,10 @@ x ⊘ y = div binary32 x y
 -- the f32 of a bit pattern
 abbrev pub f32 : ℕ → Float
 f32 = ofBits binary32
+
+-- the f32 nearest to a whole number, which is that number up to 16,777,216
+abbrev pub wholeF : ℕ → Float
+wholeF n = ofInt binary32 (pos n)
 
 -- +0
 abbrev pub zeroF : Float

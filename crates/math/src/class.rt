@@ -2,7 +2,7 @@
 ghost use mathlib.Core.Path.{_≡_};
 ghost use mathlib.Core.Bool.{false};
 ghost use lib.Ieee.{inf, isNan};
-ghost use Rattle.math.specs.Range.{finiteOf};
+ghost use Rattle.math.specs.Range.{isFinite};
 
 pub fn is_nan(x: f32) -> bool
     ensures { λ r. ⌜ r ≡ isNan x ⌝ }
@@ -18,7 +18,7 @@ pub fn infinity() -> f32
 
 // Neither a NaN nor an infinity.
 pub fn is_finite(x: f32) -> bool
-    ensures { λ r. ⌜ r ≡ finiteOf x ⌝ }
+    ensures { λ r. ⌜ r ≡ isFinite x ⌝ }
 {
     let top = infinity();
     (-top < x) & (x < top)

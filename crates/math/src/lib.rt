@@ -5,6 +5,7 @@ mod range;
 mod whole;
 
 pub use blending::blend;
+pub use blending::ratio;
 pub use class::infinity;
 pub use class::is_finite;
 pub use class::is_nan;

@@ -1,6 +1,6 @@
 // Keeping a float in a range.
 ghost use mathlib.Core.Path.{_≡_};
-ghost use Rattle.math.specs.Range.{clampOf, clamp01Of, maxZeroOf, sizeOf, valueOf, betweenOf};
+ghost use Rattle.math.specs.Range.{clampOf, clamp01Of, maxZeroOf, sizeOf, isValue, isBetween};
 
 // 2^-23, Rust's f32::EPSILON.
 pub const EPSILON: f32 = 0.00000011920928955078125;
@@ -47,14 +47,14 @@ pub fn size(x: f32) -> f32
 
 // From lo to hi; a NaN is not.
 pub fn is_between(x: f32, lo: f32, hi: f32) -> bool
-    ensures { λ r. ⌜ r ≡ betweenOf lo hi x ⌝ }
+    ensures { λ r. ⌜ r ≡ isBetween lo hi x ⌝ }
 {
     (lo <= x) & (x <= hi)
 }
 
 // Whether x may be a value: finite, and at most 16,777,216 in size.
 pub fn is_value(x: f32) -> bool
-    ensures { λ r. ⌜ r ≡ valueOf x ⌝ }
+    ensures { λ r. ⌜ r ≡ isValue x ⌝ }
 {
     is_between(x, -16777216.0, 16777216.0)
 }

@@ -7,7 +7,7 @@ use lib.Dec.{T}
 use lib.Ieee.{Float, le, ofBits}
 use lib.Ieee.Fits.{and-i, and-l, and-r}
 use Rattle.math.specs.Rounded.{zeroF, topF}
-use Rattle.math.specs.Range.{valueOf, betweenOf, AtMost}
+use Rattle.math.specs.Range.{isValue, isBetween, AtMost}
 use Rattle.math.specs.Whole.{Is}
 use Rattle.math.proofs.Choice.{and-both}
 use Rattle.math.proofs.Order.{le-chain}
@@ -87,25 +87,25 @@ pub settings-turned : (now : TweenSnapshot) (t : Tween) → T (settingsWithin t)
 unfolding settingsWithin
 settings-turned now t h =
     subst T
-    (ap (λ (v : Bool). v && betweenOf zeroF topF (t .duration) && betweenOf zeroF topF (t .delay) && betweenOf zeroF topScale (t .«time_scale») && modeWithin (t .looping) && fitsRecordOf (t .easing))
-    (and-comm (valueOf (t .start)) (valueOf (t .end)))) h
+    (ap (λ (v : Bool). v && isBetween zeroF topF (t .duration) && isBetween zeroF topF (t .delay) && isBetween zeroF topScale (t .«time_scale») && modeWithin (t .looping) && fitsRecordOf (t .easing))
+    (and-comm (isValue (t .start)) (isValue (t .end)))) h
 
-pub between : (lo hi x : Float) → T (le lo x) → T (le x hi) → T (betweenOf lo hi x)
+pub between : (lo hi x : Float) → T (le lo x) → T (le x hi) → T (isBetween lo hi x)
 between lo hi x h k = and-i (le lo x) (le x hi) h k
 
-pub clock : (t : Tween) → T (betweenOf zeroF (t .duration) (t .elapsed)) → T (betweenOf zeroF topWait (t .«delay_elapsed»)) → T (idleBelow (t .state) (t .«delay_elapsed») (t .delay)) → T (clockWithin t)
+pub clock : (t : Tween) → T (isBetween zeroF (t .duration) (t .elapsed)) → T (isBetween zeroF topWait (t .«delay_elapsed»)) → T (idleBelow (t .state) (t .«delay_elapsed») (t .delay)) → T (clockWithin t)
 unfolding clockWithin
 clock t e w i =
-    and-i (betweenOf zeroF (t .duration) (t .elapsed) && betweenOf zeroF topWait (t .«delay_elapsed»)) (idleBelow (t .state) (t .«delay_elapsed») (t .delay))
-    (and-i (betweenOf zeroF (t .duration) (t .elapsed)) (betweenOf zeroF topWait (t .«delay_elapsed»)) e w) i
+    and-i (isBetween zeroF (t .duration) (t .elapsed) && isBetween zeroF topWait (t .«delay_elapsed»)) (idleBelow (t .state) (t .«delay_elapsed») (t .delay))
+    (and-i (isBetween zeroF (t .duration) (t .elapsed)) (isBetween zeroF topWait (t .«delay_elapsed»)) e w) i
 
 pub within : (t : Tween) → T (settingsWithin t) → T (clockWithin t) → T (countWithin t) → T (withinOf t)
 unfolding withinOf
 within t s c n = and-i (settingsWithin t && clockWithin t) (countWithin t) (and-i (settingsWithin t) (clockWithin t) s c) n
 
 module _ (t : Tween) (i : Limits t) where
-  pub waited : T (betweenOf zeroF topWait (t .«delay_elapsed»))
+  pub waited : T (isBetween zeroF topWait (t .«delay_elapsed»))
   waited = between zeroF topWait (t .«delay_elapsed») (i .waited-up) (i .waited-to)
 
-  pub elapsed : T (betweenOf zeroF (t .duration) (t .elapsed))
+  pub elapsed : T (isBetween zeroF (t .duration) (t .elapsed))
   elapsed = between zeroF (t .duration) (t .elapsed) (i .elapsed-up) (i .elapsed-to)

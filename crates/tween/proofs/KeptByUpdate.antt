@@ -6,7 +6,7 @@ use lib.Dec.{T, lit≤}
 use lib.Ieee.{Float, binary32, lt, le, isNan}
 use lib.Ieee.Fits.{and-i, and-l, and-r}
 use Rattle.math.specs.Rounded.{zeroF, topF, _⊕_, _⊖_, _⊗_}
-use Rattle.math.specs.Range.{finiteOf, betweenOf, maxZeroOf, AtMost}
+use Rattle.math.specs.Range.{isFinite, isBetween, maxZeroOf, AtMost}
 use Rattle.math.proofs.Choice.{by-test}
 use Rattle.math.proofs.Order.{le-numbers, lt-le, le-self, le-chain, le-of-not-lt, lt-of-not-le}
 use Rattle.math.proofs.Upward.{Up, add-up, sub-up, mul-up, max-zero-up}
@@ -34,7 +34,7 @@ abbrev Good : Float → Folding → Type 0
 Good d p = Up (p .elapsed) × (p .completed ≡ true → T (le (p .elapsed) d))
 
 module _ (d : Float) (low : Up d) (most : AtMost 16777216 d) where
-  finite : T (finiteOf d)
+  finite : T (isFinite d)
   finite = at-most-finite 16777216 d most
 
   number : isNan d ≡ false
@@ -46,7 +46,7 @@ module _ (d : Float) (low : Up d) (most : AtMost 16777216 d) where
       (λ n r. (sub-up binary32 (p .elapsed) d finite (subst⁻¹ T (is-due d p g .1) tt), λ h. absurd (false≢true h)))
 
   -- where no fold is due any more
-  rests : (p : Folding) → Good d p → due d p ≡ false → T (betweenOf zeroF d (p .elapsed))
+  rests : (p : Folding) → Good d p → due d p ≡ false → T (isBetween zeroF d (p .elapsed))
   rests p i g = between zeroF d (p .elapsed) (i .0) (go (p .completed) refl)
     where
       go : (c : Bool) → p .completed ≡ c → T (le (p .elapsed) d)
@@ -64,12 +64,12 @@ fine : (t : Tween) → T (settingsWithin t) → T (clockWithin t) → T (setting
 fine t s c = and-i (settingsWithin t) (clockWithin t) s c
 
 module _ (t : Tween) (i : Limits t) where
-  ran-fine : (w : Float) (p : Folding) → T (betweenOf zeroF topWait w) → T (betweenOf zeroF (t .duration) (p .elapsed)) → Fine (ran t w p)
+  ran-fine : (w : Float) (p : Folding) → T (isBetween zeroF topWait w) → T (isBetween zeroF (t .duration) (p .elapsed)) → Fine (ran t w p)
   ran-fine w p h k =
       let u = put (afterFolds w p) t in
       fine u (settings-stay (afterFolds w p) t (i .settings)) (clock u k h (by-test (λ (s : TweenState). T (idleBelow s w (t .delay))) (p .completed) Completed Running (λ _. tt) (λ _. tt)))
 
-  advanced-fine : (w e : Float) → T (betweenOf zeroF topWait w) → Up e → Fine (advanced t w e)
+  advanced-fine : (w e : Float) → T (isBetween zeroF topWait w) → Up e → Fine (advanced t w e)
   advanced-fine w e h k =
       let d = t .duration in
       let first : Good d (beginAt t e) = (k, λ c. absurd (false≢true c)) in
@@ -77,7 +77,7 @@ module _ (t : Tween) (i : Limits t) where
       (λ g. ran-fine w (foldedFrom t e) h (rests d (i .duration-up) (i .duration-most) (foldedFrom t e) (all-good d (i .duration-up) (i .duration-most) (t .looping) (beginAt t e) first) g))
 
   -- y, times the scale, is added to elapsed
-  sum-up : (y : Float) → T (finiteOf y) → Up y → Up (t .elapsed ⊕ y ⊗ t .«time_scale»)
+  sum-up : (y : Float) → T (isFinite y) → Up y → Up (t .elapsed ⊕ y ⊗ t .«time_scale»)
   sum-up y f h =
       let s = t .«time_scale» in
       add-up binary32 (t .elapsed) (y ⊗ s) (i .elapsed-up) (mul-up binary32 y s f (at-most-finite 1024 s (i .scale-most)) h (i .scale-up))
@@ -104,7 +104,7 @@ module _ (t : Tween) (i : Limits t) where
         let vm : AtMost 16777216 v = up-to 16777216 v topF top-is (i .waited-up) (le-chain v d topF (lt-le v d l) (i .delay-to)) in
         let wm : AtMost 33554432 w = add-at-most binary32 33554432 (power-is binary32 25 (lit≤ tt)) 16777216 16777216 v x (lit≤ tt) vm step-most in
         let wu : Up w = add-up binary32 v x (i .waited-up) low in
-        let wb : T (betweenOf zeroF topWait w) = between zeroF topWait w wu (at-most-le 33554432 w topWait top-wait-is wm) in
+        let wb : T (isBetween zeroF topWait w) = between zeroF topWait w wu (at-most-le 33554432 w topWait top-wait-is wm) in
         by-test Fine (lostOf Idle t x w) _ _ (λ _. tt)
         (λ _.
         by-test Fine (lt w d) _ _

@@ -1,10 +1,9 @@
 -- Document 01, "The tween" and "Refusal numbers": the calls that read a tween, and those that change it, but for `update`. Each refuses 4 first.
 use mathlib.Core.Bool.{false, cond}
-use lib.IntN.{pos}
-use lib.Ieee.{Float, inf, binary32, ofInt, lt, eq, isNan}
-use Rattle.math.specs.Rounded.{zeroF, oneF, _⊕_, _⊖_, _⊗_, _⊘_}
+use lib.Ieee.{Float, inf, lt, eq, isNan}
+use Rattle.math.specs.Rounded.{_⊕_, _⊖_, _⊗_, wholeF, zeroF}
 use Rattle.math.specs.Range.{clampOf, clamp01Of, maxZeroOf}
-use Rattle.math.specs.Blend.{blendOf}
+use Rattle.math.specs.Blend.{ratioOf, blendOf}
 use Rattle.refusal.specs.declared.Refusal.the-variants.{ProgressIsNan, RecordBreaksLimit}
 use Rattle.refusal.specs.Refusing.{unless}
 use Rattle.units.specs.declared.InSeconds.{InSeconds}
@@ -30,7 +29,7 @@ use Rattle.tween.specs.Limits.{withinOf}
 
 -- "`progress` as in the source": 1 where the duration is 0, else elapsed / duration, clamped
 abbrev pub progressIn : Tween → Float
-progressIn t = cond (eq (t .duration) zeroF) oneF (clamp01Of (t .elapsed ⊘ t .duration))
+progressIn t = ratioOf (t .elapsed) (t .duration)
 
 unfoldable pub progressOf : Tween → InProgress
 progressOf t = unless (withinOf t) (progress.Refused RecordBreaksLimit) (progress.Progress (record { 0 = progressIn t }))
@@ -56,8 +55,8 @@ snapshotOf t = unless (withinOf t) (snapped.Refused RecordBreaksLimit) (snapped.
 -- the delay and all passes, as the source adds them; without an end, infinity
 abbrev pub lasts : Loop → Float → Float → Float
 lasts Once delay duration = delay ⊕ duration
-lasts (Times n) delay duration = delay ⊕ duration ⊗ ofInt binary32 (pos (passesOf n))
-lasts (PingPongTimes n) delay duration = delay ⊕ duration ⊗ ofInt binary32 (pos (passesOf n))
+lasts (Times n) delay duration = delay ⊕ duration ⊗ wholeF (passesOf n)
+lasts (PingPongTimes n) delay duration = delay ⊕ duration ⊗ wholeF (passesOf n)
 lasts Forever delay duration = inf false
 lasts PingPong delay duration = inf false
 

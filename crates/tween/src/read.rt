@@ -19,10 +19,7 @@ use units::Seconds;
 fn progress_in(t: Tween) -> f32
     ensures { λ r. ⌜ r ≡ progressIn t ⌝ }
 {
-    if t.duration == 0.0 {
-        return 1.0;
-    }
-    math::clamp01(t.elapsed / t.duration)
+    math::ratio(t.elapsed, t.duration)
 }
 
 fn blend_in(t: Tween, eased: Eased) -> Eased

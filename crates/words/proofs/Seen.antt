@@ -12,13 +12,13 @@ use lib.Ieee.{Float, lt, le}
 use borrow.Author.Tests.{lt-ltb}
 use denote.Floats.{passes as holds}
 use Rattle.math.specs.Rounded.{zeroF, topF}
-use Rattle.math.specs.Range.{valueOf, maxZeroOf}
+use Rattle.math.specs.Range.{isValue, maxZeroOf}
 use Rattle.math.proofs.Choice.{and-both}
 use Rattle.math.proofs.Order.{lt-le, le-lt-chain, lt-le-chain}
 use Rattle.math.proofs.Upward.{Up}
 use Rattle.easing.specs.Apply.{fitsRecordOf}
 use Rattle.frames.specs.declared.frame.Keyframe.{Keyframe}
-use Rattle.frames.specs.Limits.{timeOf, frameOf, framesAfter, framesOf, beforeAll, noFrame}
+use Rattle.frames.specs.Limits.{isTime, frameWithin, framesAfter, framesWithin, beforeAll, noFrame}
 use Rattle.frames.specs.Sampling.{cutOf, betweenOf, pickOf, sampleOf}
 use Rattle.frames.proofs.Rising.{time-top}
 use Rattle.frames.proofs.Scans.{Scanned, scan-none, scan-inside, scan-picked}
@@ -50,7 +50,7 @@ Past w before i = (0 < i) × (before ≡ getD (w .frames) (i - 1) noWords .time)
 pub record Seen (w : LaxTrack) (t before : Float) (low i : ℕ) : Type 0 where
   pub known : knownKinds (take (w .count) (w .frames)) ≡ knownKinds (drop i (take (w .count) (w .frames)))
   pub came : AtStart before i ⊎ Past w before i
-  pub fine : T (le before topF) → framesAfter before (drop i (take (w .count) (framesRead w))) ≡ framesOf (take (w .count) (framesRead w))
+  pub fine : T (le before topF) → framesAfter before (drop i (take (w .count) (framesRead w))) ≡ framesWithin (take (w .count) (framesRead w))
   pub scan : Scanned (framesRead w) t low i
 
 pub seen-none : (w : LaxTrack) (t : Float) → Seen w t beforeAll 0 0
@@ -75,7 +75,7 @@ module _ (w : LaxTrack) (fit : w .count ≤ length (w .frames)) (most : w .count
   time-at j h = rw (frame-at j h)
 
   -- one frame more
-  module _ (t before : Float) (low i : ℕ) (s : Seen w t before low i) (here : i < w .count) (start : timeOf (getD (w .frames) 0 noWords .time) ≡ true) where
+  module _ (t before : Float) (low i : ℕ) (s : Seen w t before low i) (here : i < w .count) (start : isTime (getD (w .frames) 0 noWords .time) ≡ true) where
     abbrev k : LaxKeyframe
     k = getD (w .frames) i noWords
 
@@ -83,19 +83,19 @@ module _ (w : LaxTrack) (fit : w .count ≤ length (w .frames)) (most : w .count
       next-up : Up (k .time)
       next-up = ⊎-elim (λ (z : AtStart before i). rw (z .0) (time-clock _ start .0)) (λ (c : Past w before i). lt-le zeroF (k .time) (le-lt-chain zeroF before (k .time) (c .2) (holds _ above))) (s .came)
 
-      next-time : T (le (k .time) topF) → timeOf (k .time) ≡ true
+      next-time : T (le (k .time) topF) → isTime (k .time) ≡ true
       next-time m = ⊎-elim (λ (z : AtStart before i). rw (z .0) start) (λ (c : Past w before i). later-time before (k .time) (c .2) (holds _ above) m) (s .came)
 
-      module _ (value : valueOf (getD (w .frames) i noWords .value) ≡ true) (easing : easingFits (getD (w .frames) i noWords .easing) ≡ true) where
+      module _ (value : isValue (getD (w .frames) i noWords .value) ≡ true) (easing : easingFits (getD (w .frames) i noWords .easing) ≡ true) where
         next-known : isKind (k .easing .kind) ≡ true
         unfolding easingFits
         next-known = and-both (isKind (k .easing .kind)) (fitsRecordOf (easingIn (easingFrom (k .easing)))) easing .0
 
-        next-frame : T (le (k .time) topF) → frameOf (frameFrom k) ≡ true
-        unfolding frameOf frameFrom easingFits
+        next-frame : T (le (k .time) topF) → frameWithin (frameFrom k) ≡ true
+        unfolding frameWithin frameFrom easingFits
         next-frame m = rw (next-time m, value, and-both (isKind (k .easing .kind)) (fitsRecordOf (easingIn (easingFrom (k .easing)))) easing .1)
 
-        next-fine : T (le (k .time) topF) → framesAfter (k .time) (drop (i + 1) (take (w .count) (framesRead w))) ≡ framesOf (take (w .count) (framesRead w))
+        next-fine : T (le (k .time) topF) → framesAfter (k .time) (drop (i + 1) (take (w .count) (framesRead w))) ≡ framesWithin (take (w .count) (framesRead w))
         unfolding frameFrom
         next-fine m =
             let b : T (le before topF) = lt-le before topF (lt-le-chain before (k .time) topF (holds _ above) m) in
@@ -118,7 +118,7 @@ pub record Ended (w : LaxTrack) (secs t : Float) (low : ℕ) : Type 0 where
   pub fit : w .count ≤ length (w .frames)
   pub before : Float
   pub seen : Seen w t before low (w .count)
-  pub end : timeOf (getD (w .frames) (w .count - 1) noWords .time) ≡ true
+  pub end : isTime (getD (w .frames) (w .count - 1) noWords .time) ≡ true
   pub clock : clockKnown (w .elapsed) (w .looping) (getD (w .frames) (w .count - 1) noWords .time) ≡ true
   pub cut : t ≡ cutOf (maxZeroOf secs) (getD (w .frames) (w .count - 1) noWords .time)
 
@@ -135,7 +135,7 @@ module _ (w : LaxTrack) (secs t : Float) (low : ℕ) (x : Ended w secs t low) wh
   last-top : T (le (x .before) topF)
   last-top = ⊎-elim (λ (z : AtStart (x .before) (w .count)). absurd (omega (arith, z .0, x .some))) (λ (c : Past w (x .before) (w .count)). rw (c .1) (time-top _ (x .end))) (x .seen .came)
 
-  all-fine : framesOf (take (w .count) (framesRead w)) ≡ true
+  all-fine : framesWithin (take (w .count) (framesRead w)) ≡ true
   all-fine = sym (x .seen .fine last-top) ∙ after-end (framesRead w) (w .count) long (x .before)
 
   clock-parts : (isMode (w .looping .mode) ≡ true) × (clockFits (w .elapsed) (loopIn (loopFrom (w .looping))) (getD (w .frames) (w .count - 1) noWords .time) ≡ true)

@@ -11,11 +11,11 @@ use lib.Seq.{length-take-le, getD-take}
 use lib.Ieee.{Float, lt}
 use lib.Ieee.Bits.{is-true}
 use borrow.Author.Tests.{ltb-true, le-ltb, ne-eqb}
-use Rattle.math.specs.Range.{valueOf}
+use Rattle.math.specs.Range.{isValue}
 use Rattle.math.proofs.Choice.{and-both}
 use Rattle.easing.specs.declared.answers.Eased.{Eased}
 use Rattle.easing.specs.declared.answers.Eased.the-variants as eased
-use Rattle.frames.specs.Limits.{timeOf, frameOf, framesOf, beforeAll, noFrame}
+use Rattle.frames.specs.Limits.{isTime, frameWithin, framesWithin, beforeAll, noFrame}
 use Rattle.frames.proofs.Rising.{each-fine, above, rising, time-fine, value-fine, easing-fine}
 use Rattle.keyframe.specs.Limits.{withinOf}
 use Rattle.keyframe.specs.Sampling.{valueAtOf}
@@ -66,21 +66,21 @@ module _ (w : LaxTrack) (long : length (w .frames) ≡ 64) (x : Answered w) wher
   fit : w .count ≤ length (w .frames)
   fit = let m = most in omega (arith, long)
 
-  fine : framesOf (take (w .count) (framesRead w)) ≡ true
+  fine : framesWithin (take (w .count) (framesRead w)) ≡ true
   unfolding trackFrom
   fine = frames-fine (trackFrom w) (x .within)
 
   taken : length (take (w .count) (framesRead w)) ≡ w .count
   taken = length-take-le (w .count) (framesRead w) (read-long w fit most)
 
-  frame : (j : ℕ) → j < w .count → frameOf (frameFrom (getD (w .frames) j noWords)) ≡ true
+  frame : (j : ℕ) → j < w .count → frameWithin (frameFrom (getD (w .frames) j noWords)) ≡ true
   frame j h = rw (getD-take (w .count) (framesRead w) j noFrame h, frame-at w fit most j h) at (each-fine beforeAll (take (w .count) (framesRead w)) fine j (omega (arith, taken)))
 
-  pub time : (j : ℕ) → j < w .count → timeOf (getD (w .frames) j noWords .time) ≡ true
+  pub time : (j : ℕ) → j < w .count → isTime (getD (w .frames) j noWords .time) ≡ true
   unfolding frameFrom
   time j h = time-fine _ (frame j h)
 
-  pub value : (j : ℕ) → j < w .count → valueOf (getD (w .frames) j noWords .value) ≡ true
+  pub value : (j : ℕ) → j < w .count → isValue (getD (w .frames) j noWords .value) ≡ true
   unfolding frameFrom
   value j h = value-fine _ (frame j h)
 

@@ -11,7 +11,7 @@ use Rattle.tween.specs.Limits.{settingsWithin, clockWithin, withinOf as tweenWi
 use Rattle.tween.specs.Calls.{valueOf, resetOf}
 use Rattle.tween.specs.Folds.{foldOnce, due, foldsOf}
 use Rattle.tween.specs.Update.{folded, advanced, waitOf, runOf, byState, updateOf as tweenUpdate}
-use Rattle.frames.specs.Limits.{timeOf, frameOf, framesAfter}
+use Rattle.frames.specs.Limits.{isTime, frameWithin, framesAfter}
 use Rattle.frames.specs.Sampling.{durationOf, betweenOf, leading, sampleOf}
 use Rattle.frames.specs.Pushing.{pushedOf, putOf}
 use Rattle.keyframe.specs.Limits.{endOf, modeFits, clockFits, withinOf as trackWithin}
@@ -28,5 +28,5 @@ unfolding easings modeWithin settingsWithin clockWithin tweenWithin valueOf rese
 tweens = tt
 
 unfoldable pub tracks : Unit {0}
-unfolding easings modeWithin timeOf frameOf framesAfter durationOf betweenOf leading sampleOf pushedOf putOf endOf modeFits clockFits trackWithin newTrack takesOf placedOf pushOf loopingOf valueAtOf finalOf advanceOf trackUpdate
+unfolding easings modeWithin isTime frameWithin framesAfter durationOf betweenOf leading sampleOf pushedOf putOf endOf modeFits clockFits trackWithin newTrack takesOf placedOf pushOf loopingOf valueAtOf finalOf advanceOf trackUpdate
 tracks = tt

@@ -2,20 +2,14 @@
 use Prim.Native.Nat.{ℕ}
 use mathlib.Core.Bool.{Bool, false}
 use lib.Dec.{eqb}
-use lib.Ieee.{Float, eq}
+use lib.Ieee.{Float}
 use Rattle.math.specs.Rounded.{zeroF}
 use Rattle.refusal.specs.Number.{numberOf}
-use Rattle.easing.specs.declared.answers.Eased.{Eased}
-use Rattle.easing.specs.declared.answers.Eased.the-variants as eased
 use Rattle.easing.specs.declared.kinds.Easing.the-variants.{Linear}
 use Rattle.keyframe.specs.declared.types.Track.{Track}
 use Rattle.keyframe.specs.declared.types.Stepped.{Stepped}
 use Rattle.keyframe.specs.declared.types.Stepped.the-variants as stepped
 use Rattle.keyframe.specs.Pushing.{newTrack, pushOf}
-
-abbrev pub isValue : Eased → Float → Bool
-isValue (eased.Value v) expected = eq v expected
-isValue (eased.Refused r) expected = false
 
 abbrev pub isRefused : Stepped → ℕ → Bool
 isRefused (stepped.Ran running) number = false

@@ -2,14 +2,15 @@
 ghost use mathlib.Core.Path.{_≡_};
 ghost use Rattle.keyframe.specs.Sampling.{valueAtOf};
 ghost use Rattle.keyframe.specs.Stepping.{updateOf};
-ghost use Rattle.worked.specs.Answers.{isValue, isRefused};
+ghost use Rattle.easing.specs.Ends.{equals};
+ghost use Rattle.worked.specs.Answers.{isRefused};
 use easing::Eased;
 use keyframe::Stepped;
 use keyframe::Track;
 use units::Seconds;
 
 pub fn gives(track: Track, secs: f32, expected: f32) -> bool
-    ensures { λ r. ⌜ r ≡ isValue (valueAtOf track secs) expected ⌝ }
+    ensures { λ r. ⌜ r ≡ equals (valueAtOf track secs) expected ⌝ }
 {
     match track.value_at(Seconds(secs)) {
         Eased::Value(v) => v == expected,

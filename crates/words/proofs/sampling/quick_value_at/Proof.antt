@@ -9,7 +9,7 @@ use borrow.Author.Tests.{not-true, not-false}
 use lib.ListN.{length, getD}
 use lib.Ieee.{ofBits, neg, lt}
 use Rattle.math.proofs.Choice.{and-both}
-use Rattle.frames.specs.Limits.{timeOf}
+use Rattle.frames.specs.Limits.{isTime}
 use Rattle.frames.proofs.Scans.{Scanned, scan-yes, scan-no}
 use Rattle.words.specs.Sampling.{clockKnown}
 use Rattle.words.proofs.Known.{words-long, few-places, noWords}
@@ -31,8 +31,8 @@ counted c = few-places (c .before .args .t1 .count) (c .if1 .left)
 -- past the tests before the loop
 ready : (c : tie.Else2 Inv-loop μ-loop)
     → let w = c .before .before .before .before .before .before .before .before .args .t1 in
-    (timeOf (getD (w .frames) 0 noWords .time) ≡ true)
-    × (timeOf (getD (w .frames) (w .count - 1) noWords .time) ≡ true)
+    (isTime (getD (w .frames) 0 noWords .time) ≡ true)
+    × (isTime (getD (w .frames) (w .count - 1) noWords .time) ≡ true)
     × (clockKnown (w .elapsed) (w .looping) (getD (w .frames) (w .count - 1) noWords .time) ≡ true)
 ready c =
     let a = c .before .before .before .before .is-time in

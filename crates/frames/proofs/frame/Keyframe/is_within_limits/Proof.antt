@@ -1,11 +1,11 @@
 -- `is_within_limits` meets its contract, by what its callees ensure. Assumes nothing.
 use borrow.Author.Needs.{needs}
-use Rattle.frames.specs.Limits.{frameOf}
+use Rattle.frames.specs.Limits.{frameWithin}
 use Rattle.frames.proofs.frame.Keyframe.is_within_limits.Statement.{statement}
 use Rattle.frames.proofs.frame.Keyframe.is_within_limits.Tie as tie
 
 pub is-within-limits-spec : {M : Type 1} → statement M
-unfolding frameOf
+unfolding frameWithin
 is-within-limits-spec =
     tie.close
     (tie.spec

@@ -6,20 +6,20 @@ use native.Mathlib.Omega.{arith}
 use borrow.Author.Needs.{needs}
 use lib.ListN.{length, take, drop, getD}
 use lib.Ieee.{ofBits, neg, lt}
-use Rattle.frames.specs.Limits.{frameOf, framesAfter, framesOf, noFrame}
+use Rattle.frames.specs.Limits.{frameWithin, framesAfter, framesWithin, noFrame}
 use Rattle.keyframe.specs.Limits.{framesIn}
 use Rattle.keyframe.proofs.Records.{frames-long, after-step, after-end, last-time, no-time, too-many, broken, clocked}
 use Rattle.keyframe.proofs.types.Track.is_within_limits.Statement.{statement}
 use Rattle.keyframe.proofs.types.Track.is_within_limits.Tie as tie
 
 abbrev Inv-loop : tie.InvT-loop
-Inv-loop self n last₀ i₀ last i = (i ≤ n) × (framesAfter last (drop i (take n (self .frames))) ≡ framesOf (take n (self .frames)))
+Inv-loop self n last₀ i₀ last i = (i ≤ n) × (framesAfter last (drop i (take n (self .frames))) ≡ framesWithin (take n (self .frames)))
 
 abbrev μ-loop : tie.MeasureT-loop
 μ-loop self n last₀ i₀ last i = n - i
 
 -- past the loop the frames are fine
-after : (c : tie.After-loop Inv-loop μ-loop) → framesOf (framesIn (c .before .before .before .args .t1)) ≡ true
+after : (c : tie.After-loop Inv-loop μ-loop) → framesWithin (framesIn (c .before .before .before .args .t1)) ≡ true
 after c =
     let s = c .before in
     let t = s .before .before .args .t1 in
@@ -47,7 +47,7 @@ is-within-limits-spec =
     let h : s .loop .i < t .count = omega arith in
     let l : length (t .frames) ≡ 64 = frames-long t _ (s .before .before .good .0) in
     let k = getD (t .frames) (s .loop .i) noFrame in
-    let f : frameOf k && lt (s .loop .last) (k .time) ≡ true = rw (← c .before .before .is-within-limits .ensures) (c .if2 .taken) in
+    let f : frameWithin k && lt (s .loop .last) (k .time) ≡ true = rw (← c .before .before .is-within-limits .ensures) (c .if2 .taken) in
     (omega arith, sym (rw f at (after-step (t .frames) (t .count) (omega arith) (s .loop .i) (s .loop .last) h)) ∙ s .loop .inv .1))
     (λ c.
     let s = c .before .before .before .before .before in
@@ -55,7 +55,7 @@ is-within-limits-spec =
     let h : s .loop .i < t .count = omega arith in
     let l : length (t .frames) ≡ 64 = frames-long t _ (s .before .before .good .0) in
     let k = getD (t .frames) (s .loop .i) noFrame in
-    let f : frameOf k && lt (s .loop .last) (k .time) ≡ false = rw (← c .before .before .is-within-limits .ensures) (c .if2 .left) in
+    let f : frameWithin k && lt (s .loop .last) (k .time) ≡ false = rw (← c .before .before .is-within-limits .ensures) (c .if2 .left) in
     broken t (omega arith) (sym (rw f at (after-step (t .frames) (t .count) (omega arith) (s .loop .i) (s .loop .last) h)) ∙ s .loop .inv .1))
     (λ c κs. search needs)
     (λ c.

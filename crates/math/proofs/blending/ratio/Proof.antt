@@ -1,8 +1,8 @@
 -- `ratio` meets its contract. Assumes nothing.
 use borrow.Author.Needs.{needs}
 use lib.Ieee.{ofBits}
-use Rattle.keyframe.proofs.playback.ratio.Statement.{statement}
-use Rattle.keyframe.proofs.playback.ratio.Tie as tie
+use Rattle.math.proofs.blending.ratio.Statement.{statement}
+use Rattle.math.proofs.blending.ratio.Tie as tie
 
 pub ratio-spec : {M : Type 1} → statement M
 unfolding ofBits
