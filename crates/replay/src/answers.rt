@@ -1,6 +1,8 @@
 // The library's answers as words of the list. A refused call answers its number, and where it hands a
 // record back a 1, for the one that came.
+use crate::word::Row;
 use crate::word::float_word;
+use crate::word::nothing;
 use crate::word::put;
 use easing::Eased;
 use refusal::Refusal;
@@ -36,25 +38,24 @@ pub fn said_progress(a: InProgress) -> Said {
     }
 }
 
-fn put_accepted(out: &mut [u32], w: u32) -> usize {
-    let n = put(out, 0, 0);
-    put(out, n, w)
+// The answer of a call that is not refused, as far as it is one word.
+fn accepted(w: u32) -> Row {
+    put(put(nothing(), 0), w)
 }
 
-pub fn put_said(out: &mut [u32], a: Said) -> usize {
+pub fn put_said(a: Said) -> Row {
     match a {
-        Said::Float(x) => put_accepted(out, float_word(x)),
-        Said::Flag(b) => put_accepted(out, flag_word(b)),
-        Said::Refused(refusal) => put(out, 0, refusal.number()),
+        Said::Float(x) => accepted(float_word(x)),
+        Said::Flag(b) => accepted(flag_word(b)),
+        Said::Refused(refusal) => put(nothing(), refusal.number()),
     }
 }
 
-pub fn put_refused(out: &mut [u32], number: u32, is_kept: bool) -> usize {
-    let n = put(out, 0, number);
-    put(out, n, flag_word(is_kept))
+pub fn refused(number: u32, is_kept: bool) -> Row {
+    put(put(nothing(), number), flag_word(is_kept))
 }
 
 // The number where a word is no kind, no mode or no state.
-pub fn put_unknown(out: &mut [u32]) -> usize {
-    put(out, 0, 100)
+pub fn unknown() -> Row {
+    put(nothing(), 100)
 }

@@ -1,11 +1,13 @@
 // The calls of an easing.
 use crate::answers::Said;
 use crate::answers::put_said;
-use crate::answers::put_unknown;
 use crate::answers::said_value;
+use crate::answers::unknown;
 use crate::given::easing_at;
 use crate::handed::put_easing;
+use crate::word::Row;
 use crate::word::float_at;
+use crate::word::nothing;
 use crate::word::put;
 use crate::word::word;
 use easing::Easing;
@@ -22,40 +24,37 @@ fn equality(a: Equality) -> Said {
     }
 }
 
-fn eq(x: Easing, words: &[u32], out: &mut [u32]) -> usize {
+fn eq(x: Easing, words: &[u32]) -> Row {
     match easing_of(easing_at(words, 6)) {
-        EasingRead::Known(y) => put_said(out, equality(x.eq(y))),
-        EasingRead::Unknown => put_unknown(out),
+        EasingRead::Known(y) => put_said(equality(x.eq(y))),
+        EasingRead::Unknown => unknown(),
     }
 }
 
-fn known(call: u32, e: Easing, words: &[u32], out: &mut [u32]) -> usize {
+fn known(call: u32, e: Easing, words: &[u32]) -> Row {
     match call {
-        1 => put_said(out, said_value(e.apply(Progress(float_at(words, 6))))),
-        2 => eq(e, words, out),
-        _ => put_said(out, Said::Flag(e.is_supplied())),
+        1 => put_said(said_value(e.apply(Progress(float_at(words, 6))))),
+        2 => eq(e, words),
+        _ => put_said(Said::Flag(e.is_supplied())),
     }
 }
 
-fn named(words: &[u32], out: &mut [u32]) -> usize {
-    let place = word(words, 0);
+fn named(place: u32) -> Row {
     if place < 38 {
         let all = Easing::all_named();
         let e = all[place as usize];
-        let n = put(out, 0, 0);
-        return put_easing(out, n, easing_words(e));
+        return put_easing(put(nothing(), 0), easing_words(e));
     }
-    put_unknown(out)
+    unknown()
 }
 
-// The answer goes into the front of out. Answers how many words it has.
-pub fn answer(call: u32, words: &[u32], out: &mut [u32]) -> usize {
+pub fn answer(call: u32, words: &[u32]) -> Row {
     if call == 4 {
-        return named(words, out);
+        return named(word(words, 0));
     }
     match easing_of(easing_at(words, 0)) {
-        EasingRead::Known(e) => known(call, e, words, out),
-        EasingRead::Unknown => put_unknown(out),
+        EasingRead::Known(e) => known(call, e, words),
+        EasingRead::Unknown => unknown(),
     }
 }
 

@@ -1,11 +1,11 @@
 // The calls of a track.
 use crate::answers::Said;
-use crate::answers::put_refused;
+use crate::answers::refused;
 use crate::answers::put_said;
-use crate::answers::put_unknown;
 use crate::answers::said_progress;
 use crate::answers::said_seconds;
 use crate::answers::said_value;
+use crate::answers::unknown;
 use crate::given::easing_at;
 use crate::given::loop_at;
 use crate::handed::is_same_track;
@@ -15,7 +15,9 @@ use crate::lists::floats_at;
 use crate::lists::length_at;
 use crate::lists::marks;
 use crate::lists::put_floats;
+use crate::word::Row;
 use crate::word::float_at;
+use crate::word::nothing;
 use crate::word::put;
 use keyframe::Changed;
 use keyframe::Completion;
@@ -34,28 +36,24 @@ use words::is_known;
 use words::loop_of;
 use words::track_of;
 
-fn put_changed(out: &mut [u32], came: LaxTrack, a: Changed) -> usize {
+fn changed(came: LaxTrack, a: Changed) -> Row {
     let outcome = a.outcome;
     let track = a.track;
     match outcome {
-        Outcome::Done => {
-            let n = put(out, 0, 0);
-            put_track(out, n, came, track)
-        }
-        Outcome::Refused(refusal) => put_refused(out, refusal.number(), is_same_track(came, track)),
+        Outcome::Done => put_track(put(nothing(), 0), came, track),
+        Outcome::Refused(refusal) => refused(refusal.number(), is_same_track(came, track)),
     }
 }
 
-fn put_updated(out: &mut [u32], came: LaxTrack, a: Updated) -> usize {
+fn updated(came: LaxTrack, a: Updated) -> Row {
     let stepped = a.stepped;
     let track = a.track;
     match stepped {
         Stepped::Ran { running } => {
-            let mut n = put(out, 0, 0);
-            n = put(out, n, flag_word(running));
-            put_track(out, n, came, track)
+            let p = put(put(nothing(), 0), flag_word(running));
+            put_track(p, came, track)
         }
-        Stepped::Refused(refusal) => put_refused(out, refusal.number(), is_same_track(came, track)),
+        Stepped::Refused(refusal) => refused(refusal.number(), is_same_track(came, track)),
     }
 }
 
@@ -66,32 +64,30 @@ fn completion(a: Completion) -> Said {
     }
 }
 
-fn push_eased(w: LaxTrack, words: &[u32], out: &mut [u32]) -> usize {
+fn push_eased(w: LaxTrack, words: &[u32]) -> Row {
     let EasingRead::Known(e) = easing_of(easing_at(words, 2)) else {
-        return put_unknown(out);
+        return unknown();
     };
-    let a = track_of(w).push_eased(float_at(words, 0), float_at(words, 1), e);
-    put_changed(out, w, a)
+    changed(w, track_of(w).push_eased(float_at(words, 0), float_at(words, 1), e))
 }
 
-fn looping(w: LaxTrack, words: &[u32], out: &mut [u32]) -> usize {
+fn looping(w: LaxTrack, words: &[u32]) -> Row {
     match loop_of(loop_at(words, 0)) {
-        LoopRead::Known(mode) => put_changed(out, w, track_of(w).looping(mode)),
-        LoopRead::Unknown => put_unknown(out),
+        LoopRead::Known(mode) => changed(w, track_of(w).looping(mode)),
+        LoopRead::Unknown => unknown(),
     }
 }
 
 // The times stand behind the lengths of the two lists.
-fn values_at(t: Track, words: &[u32], out: &mut [u32]) -> usize {
+fn values_at(t: Track, words: &[u32]) -> Row {
     let length = length_at(words, 0);
     let room = length_at(words, 1);
     let times = floats_at(words, 2);
     let mut values = marks();
     let mut number: u32 = 0;
     let filled = t.fill_values(&times[..length], &mut values[..room], &mut number);
-    let mut n = put(out, 0, number);
-    n = put(out, n, count_word(filled));
-    put_floats(out, n, &values, room)
+    let p = put(put(nothing(), number), count_word(filled));
+    put_floats(p, values, room)
 }
 
 fn read(call: u32, t: Track, secs: f32) -> Said {
@@ -114,28 +110,27 @@ fn change(call: u32, t: Track, x: f32, y: f32) -> Changed {
     }
 }
 
-fn known(call: u32, w: LaxTrack, words: &[u32], out: &mut [u32]) -> usize {
+fn known(call: u32, w: LaxTrack, words: &[u32]) -> Row {
     let t = track_of(w);
     let x = float_at(words, 0);
     match call {
-        34 | 46 | 47 => put_changed(out, w, change(call, t, x, float_at(words, 1))),
-        35 => push_eased(w, words, out),
-        36 => looping(w, words, out),
-        39 => values_at(t, words, out),
-        40 => put_updated(out, w, t.update(x)),
-        _ => put_said(out, read(call, t, x)),
+        34 | 46 | 47 => changed(w, change(call, t, x, float_at(words, 1))),
+        35 => push_eased(w, words),
+        36 => looping(w, words),
+        39 => values_at(t, words),
+        40 => updated(w, t.update(x)),
+        _ => put_said(read(call, t, x)),
     }
 }
 
-// The answer goes into the front of out. Answers how many words it has.
-pub fn answer(call: u32, w: LaxTrack, words: &[u32], out: &mut [u32]) -> usize {
+pub fn answer(call: u32, w: LaxTrack, words: &[u32]) -> Row {
     if call == 33 {
-        return put_track(out, 0, w, Track::new());
+        return put_track(nothing(), w, Track::new());
     }
     if is_known(w) {
-        return known(call, w, words, out);
+        return known(call, w, words);
     }
-    put_unknown(out)
+    unknown()
 }
 
 // How many words the arguments have.

@@ -1,11 +1,11 @@
 // The calls of a tween.
 use crate::answers::Said;
-use crate::answers::put_refused;
+use crate::answers::refused;
 use crate::answers::put_said;
-use crate::answers::put_unknown;
 use crate::answers::said_progress;
 use crate::answers::said_seconds;
 use crate::answers::said_value;
+use crate::answers::unknown;
 use crate::handed::is_same_tween;
 use crate::handed::put_tween;
 use crate::lists::count_word;
@@ -15,7 +15,9 @@ use crate::lists::mark_words;
 use crate::lists::marks;
 use crate::lists::put_floats;
 use crate::lists::put_words;
+use crate::word::Row;
 use crate::word::float_at;
+use crate::word::nothing;
 use crate::word::put;
 use crate::word::put_float;
 use steps::Outcome;
@@ -32,49 +34,44 @@ use words::flag_word;
 use words::state_word;
 use words::tween_of;
 
-fn put_snapshot(out: &mut [u32], a: Snapped) -> usize {
+fn snapped(a: Snapped) -> Row {
     match a {
         Snapped::Snapshot(now) => {
             let state = now.state;
-            let mut n = put(out, 0, 0);
-            n = put_float(out, n, now.elapsed);
-            n = put_float(out, n, now.delay_elapsed);
-            n = put(out, n, state_word(state));
-            n = put(out, n, now.loop_count);
-            put(out, n, flag_word(now.ping_pong_reverse))
+            let mut p = put(nothing(), 0);
+            p = put_float(p, now.elapsed);
+            p = put_float(p, now.delay_elapsed);
+            p = put(p, state_word(state));
+            p = put(p, now.loop_count);
+            put(p, flag_word(now.ping_pong_reverse))
         }
-        Snapped::Refused(refusal) => put(out, 0, refusal.number()),
+        Snapped::Refused(refusal) => put(nothing(), refusal.number()),
     }
 }
 
-fn put_changed(out: &mut [u32], came: Tween, a: Changed) -> usize {
+fn changed(came: Tween, a: Changed) -> Row {
     match a {
-        Changed::Done(t) => {
-            let n = put(out, 0, 0);
-            put_tween(out, n, t)
-        }
-        Changed::Refused { tween, refusal } => put_refused(
-            out,
+        Changed::Done(t) => put_tween(put(nothing(), 0), t),
+        Changed::Refused { tween, refusal } => refused(
             refusal.number(),
             is_same_tween(tween, came),
         ),
     }
 }
 
-fn put_updated(out: &mut [u32], came: Tween, a: Updated) -> usize {
+fn updated(came: Tween, a: Updated) -> Row {
     match a {
         Updated::Ran {
             tween,
             folds,
             running,
         } => {
-            let mut n = put(out, 0, 0);
-            n = put(out, n, folds);
-            n = put(out, n, flag_word(running));
-            put_tween(out, n, tween)
+            let mut p = put(nothing(), 0);
+            p = put(p, folds);
+            p = put(p, flag_word(running));
+            put_tween(p, tween)
         }
-        Updated::Refused { tween, refusal } => put_refused(
-            out,
+        Updated::Refused { tween, refusal } => refused(
             refusal.number(),
             is_same_tween(tween, came),
         ),
@@ -89,19 +86,19 @@ fn outcome_number(outcome: Outcome) -> u32 {
 }
 
 // Where no step was taken a 1 stands for the tween that came.
-fn put_run(out: &mut [u32], came: Tween, a: Run) -> usize {
+fn put_run(came: Tween, a: Run) -> Row {
     let outcome = a.outcome;
     let tween = a.tween;
-    let mut n = put(out, 0, outcome_number(outcome));
-    n = put(out, n, count_word(a.done));
+    let mut p = put(nothing(), outcome_number(outcome));
+    p = put(p, count_word(a.done));
     if a.done == 0 {
-        return put(out, n, flag_word(is_same_tween(tween, came)));
+        return put(p, flag_word(is_same_tween(tween, came)));
     }
-    put_tween(out, n, tween)
+    put_tween(p, tween)
 }
 
 // The steps stand behind the lengths of the three lists.
-fn run(t: Tween, words: &[u32], out: &mut [u32]) -> usize {
+fn run(t: Tween, words: &[u32]) -> Row {
     let length = length_at(words, 0);
     let values_length = length_at(words, 1);
     let folds_length = length_at(words, 2);
@@ -114,9 +111,8 @@ fn run(t: Tween, words: &[u32], out: &mut [u32]) -> usize {
         &mut values[..values_length],
         &mut folds[..folds_length],
     );
-    let mut n = put_run(out, t, a);
-    n = put_floats(out, n, &values, values_length);
-    put_words(out, n, &folds, folds_length)
+    let p = put_floats(put_run(t, a), values, values_length);
+    put_words(p, folds, folds_length)
 }
 
 fn read(call: u32, t: Tween) -> Said {
@@ -138,24 +134,23 @@ fn change(call: u32, t: Tween, x: f32) -> Changed {
     }
 }
 
-fn known(call: u32, t: Tween, words: &[u32], out: &mut [u32]) -> usize {
+fn known(call: u32, t: Tween, words: &[u32]) -> Row {
     match call {
-        21 => put_snapshot(out, t.snapshot()),
-        23..=27 => put_changed(out, t, change(call, t, float_at(words, 0))),
-        28 => put_updated(out, t, t.update(float_at(words, 0))),
-        29 => run(t, words, out),
-        _ => put_said(out, read(call, t)),
+        21 => snapped(t.snapshot()),
+        23..=27 => changed(t, change(call, t, float_at(words, 0))),
+        28 => updated(t, t.update(float_at(words, 0))),
+        29 => run(t, words),
+        _ => put_said(read(call, t)),
     }
 }
 
-// The answer goes into the front of out. Answers how many words it has.
-pub fn answer(call: u32, w: LaxTween, words: &[u32], out: &mut [u32]) -> usize {
+pub fn answer(call: u32, w: LaxTween, words: &[u32]) -> Row {
     if call == 17 {
-        return put_tween(out, 0, Tween::new(float_at(words, 0), float_at(words, 1)));
+        return put_tween(nothing(), Tween::new(float_at(words, 0), float_at(words, 1)));
     }
     match tween_of(w) {
-        TweenRead::Known(t) => known(call, t, words, out),
-        TweenRead::Unknown => put_unknown(out),
+        TweenRead::Known(t) => known(call, t, words),
+        TweenRead::Unknown => unknown(),
     }
 }
 

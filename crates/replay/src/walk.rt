@@ -6,7 +6,7 @@ use crate::given::tween_in;
 use crate::read::next;
 use crate::tracks;
 use crate::tweens;
-use crate::word::is_rest;
+use crate::word::is_answer;
 use crate::word::word;
 use words::LaxTrack;
 use words::LaxTween;
@@ -60,17 +60,13 @@ fn is_call(call: u32) -> bool {
 
 // Whether the library's answer is the one in the list.
 fn agrees(tween: LaxTween, track: LaxTrack, call: u32, words: &[u32]) -> bool {
-    let mut out = [0u32; 1024];
     if call < 16 {
-        let n = easings::answer(call, words, &mut out);
-        return is_rest(words, easings::arguments(call), &out, n);
+        return is_answer(words, easings::arguments(call), easings::answer(call, words));
     }
     if call < 32 {
-        let n = tweens::answer(call, tween, words, &mut out);
-        return is_rest(words, tweens::arguments(call, words), &out, n);
+        return is_answer(words, tweens::arguments(call, words), tweens::answer(call, tween, words));
     }
-    let n = tracks::answer(call, track, words, &mut out);
-    is_rest(words, tracks::arguments(call, words), &out, n)
+    is_answer(words, tracks::arguments(call, words), tracks::answer(call, track, words))
 }
 
 fn compared(walk: Walk, call: u32, words: &[u32]) -> Walk {

@@ -39,18 +39,30 @@ pub fn float_word(x: f32) -> u32
     f32::to_bits(x)
 }
 
-// Puts a word behind the first n of out, and answers how many there are then. A word that finds no
-// room is left out.
-pub fn put(out: &mut [u32], n: usize, w: u32) -> usize {
-    if n < out.len() {
-        out[n] = w;
-        return n + 1;
-    }
-    n
+// Words that were put one behind the other: the first count of the list.
+pub struct Row {
+    pub list: [u32; 1024],
+    pub count: usize,
 }
 
-pub fn put_float(out: &mut [u32], n: usize, x: f32) -> usize {
-    put(out, n, float_word(x))
+pub fn nothing() -> Row {
+    let list = [0u32; 1024];
+    Row { list, count: 0 }
+}
+
+// One word more. A word that finds no room is left out.
+pub fn put(p: Row, w: u32) -> Row {
+    let mut q = p;
+    let n = q.count;
+    if n < 1024 {
+        q.list[n] = w;
+        q.count = n + 1;
+    }
+    q
+}
+
+pub fn put_float(p: Row, x: f32) -> Row {
+    put(p, float_word(x))
 }
 
 // Whether the words from a place on are the first n of out.
@@ -74,4 +86,16 @@ pub fn is_rest(words: &[u32], from: usize, out: &[u32], n: usize) -> bool
         i += 1;
     }
     true
+}
+
+// Whether the words from a place on are what was put.
+pub fn is_answer(words: &[u32], from: usize, p: Row) -> bool {
+    let list = p.list;
+    is_rest(words, from, &list, p.count)
+}
+
+pub fn is_same(p: Row, q: Row) -> bool {
+    let left = p.list;
+    let right = q.list;
+    is_rest(&left, 0, &right, 1024)
 }
