@@ -8,7 +8,7 @@ use words::LaxLoop;
 use words::LaxTrack;
 use words::LaxTween;
 
-pub fn easing_at(words: &[u32], at: usize) -> LaxEasing
+pub fn easing_at(words: [u32; 1024], at: usize) -> LaxEasing
     requires { ⌜ at < 1024 ⌝ }
 {
     LaxEasing {
@@ -21,7 +21,7 @@ pub fn easing_at(words: &[u32], at: usize) -> LaxEasing
     }
 }
 
-pub fn loop_at(words: &[u32], at: usize) -> LaxLoop
+pub fn loop_at(words: [u32; 1024], at: usize) -> LaxLoop
     requires { ⌜ at < 1024 ⌝ }
 {
     LaxLoop {
@@ -30,7 +30,7 @@ pub fn loop_at(words: &[u32], at: usize) -> LaxLoop
     }
 }
 
-pub fn tween_in(words: &[u32]) -> LaxTween {
+pub fn tween_in(words: [u32; 1024]) -> LaxTween {
     LaxTween {
         start: float_at(words, 0),
         end: float_at(words, 1),
@@ -47,7 +47,7 @@ pub fn tween_in(words: &[u32]) -> LaxTween {
     }
 }
 
-fn frame_at(words: &[u32], at: usize) -> LaxKeyframe
+fn frame_at(words: [u32; 1024], at: usize) -> LaxKeyframe
     requires { ⌜ at < 1000 ⌝ }
 {
     LaxKeyframe {
@@ -58,7 +58,7 @@ fn frame_at(words: &[u32], at: usize) -> LaxKeyframe
 }
 
 // Places that the list has no words for are 0.
-fn frames_at(words: &[u32], from: usize) -> [LaxKeyframe; 64]
+fn frames_at(words: [u32; 1024], from: usize) -> [LaxKeyframe; 64]
     requires { ⌜ from < 100 ⌝ }
 {
     let mut frames = [frame_at(words, from); 64];
@@ -71,7 +71,7 @@ fn frames_at(words: &[u32], from: usize) -> [LaxKeyframe; 64]
 }
 
 // Its head, then its frames.
-pub fn track_in(words: &[u32]) -> LaxTrack {
+pub fn track_in(words: [u32; 1024]) -> LaxTrack {
     let frames = frames_at(words, 6);
     LaxTrack {
         frames,

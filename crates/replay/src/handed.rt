@@ -91,5 +91,8 @@ pub fn put_track(before: Row, came: LaxTrack, t: Track) -> Row {
 
 // Whether the track is the one that came.
 pub fn is_same_track(came: LaxTrack, t: Track) -> bool {
-    is_same(put_track(nothing(), came, t), put_track(nothing(), came, track_of(came)))
+    is_same(
+        put_track(nothing(), came, t),
+        put_track(nothing(), came, track_of(came)),
+    )
 }

@@ -13,7 +13,7 @@ use crate::word::word;
 const MARK: u32 = 0x7149_f2ca;
 
 // A length among the words; 128 for one above.
-pub fn length_at(words: &[u32], at: usize) -> usize
+pub fn length_at(words: [u32; 1024], at: usize) -> usize
     ensures { λ r. ⌜ r ≤ 128 ⌝ }
 {
     let n = word(words, at) as usize;
@@ -32,7 +32,7 @@ pub fn mark_words() -> [u32; 128]
     [MARK; 128]
 }
 
-pub fn floats_at(words: &[u32], from: usize) -> [f32; 128]
+pub fn floats_at(words: [u32; 1024], from: usize) -> [f32; 128]
     requires { ⌜ from < 100 ⌝ }
     ensures { λ r. ⌜ length r ≡ 128 ⌝ }
 {

@@ -1,11 +1,11 @@
 // The calls of a track.
-use crate::answers::Said;
+use crate::answers::accepted;
+use crate::answers::completion_row;
+use crate::answers::progress_row;
 use crate::answers::refused;
-use crate::answers::put_said;
-use crate::answers::said_progress;
-use crate::answers::said_seconds;
-use crate::answers::said_value;
+use crate::answers::seconds_row;
 use crate::answers::unknown;
+use crate::answers::value_row;
 use crate::given::easing_at;
 use crate::given::loop_at;
 use crate::handed::is_same_track;
@@ -20,7 +20,6 @@ use crate::word::float_at;
 use crate::word::nothing;
 use crate::word::put;
 use keyframe::Changed;
-use keyframe::Completion;
 use keyframe::Outcome;
 use keyframe::Stepped;
 use keyframe::Track;
@@ -36,42 +35,70 @@ use words::is_known;
 use words::loop_of;
 use words::track_of;
 
+// The words before a track that is handed back. is_kept: it has to be the one that came, and a 1
+// stands for it.
+struct Head {
+    row: Row,
+    is_kept: bool,
+}
+
+fn outcome_head(outcome: Outcome) -> Head {
+    match outcome {
+        Outcome::Done => Head {
+            row: accepted(),
+            is_kept: false,
+        },
+        Outcome::Refused(refusal) => Head {
+            row: refused(refusal),
+            is_kept: true,
+        },
+    }
+}
+
+fn stepped_head(stepped: Stepped) -> Head {
+    match stepped {
+        Stepped::Ran { running } => Head {
+            row: put(accepted(), flag_word(running)),
+            is_kept: false,
+        },
+        Stepped::Refused(refusal) => Head {
+            row: refused(refusal),
+            is_kept: true,
+        },
+    }
+}
+
+fn put_back(came: LaxTrack, h: Head, t: Track) -> Row {
+    let row = h.row;
+    if h.is_kept {
+        return put(row, flag_word(is_same_track(came, t)));
+    }
+    put_track(row, came, t)
+}
+
 fn changed(came: LaxTrack, a: Changed) -> Row {
     let outcome = a.outcome;
     let track = a.track;
-    match outcome {
-        Outcome::Done => put_track(put(nothing(), 0), came, track),
-        Outcome::Refused(refusal) => refused(refusal.number(), is_same_track(came, track)),
-    }
+    put_back(came, outcome_head(outcome), track)
 }
 
 fn updated(came: LaxTrack, a: Updated) -> Row {
     let stepped = a.stepped;
     let track = a.track;
-    match stepped {
-        Stepped::Ran { running } => {
-            let p = put(put(nothing(), 0), flag_word(running));
-            put_track(p, came, track)
-        }
-        Stepped::Refused(refusal) => refused(refusal.number(), is_same_track(came, track)),
+    put_back(came, stepped_head(stepped), track)
+}
+
+fn push_eased(w: LaxTrack, words: [u32; 1024]) -> Row {
+    match easing_of(easing_at(words, 2)) {
+        EasingRead::Known(e) => changed(
+            w,
+            track_of(w).push_eased(float_at(words, 0), float_at(words, 1), e),
+        ),
+        EasingRead::Unknown => unknown(),
     }
 }
 
-fn completion(a: Completion) -> Said {
-    match a {
-        Completion::Complete(b) => Said::Flag(b),
-        Completion::Refused(refusal) => Said::Refused(refusal),
-    }
-}
-
-fn push_eased(w: LaxTrack, words: &[u32]) -> Row {
-    let EasingRead::Known(e) = easing_of(easing_at(words, 2)) else {
-        return unknown();
-    };
-    changed(w, track_of(w).push_eased(float_at(words, 0), float_at(words, 1), e))
-}
-
-fn looping(w: LaxTrack, words: &[u32]) -> Row {
+fn looping(w: LaxTrack, words: [u32; 1024]) -> Row {
     match loop_of(loop_at(words, 0)) {
         LoopRead::Known(mode) => changed(w, track_of(w).looping(mode)),
         LoopRead::Unknown => unknown(),
@@ -79,7 +106,7 @@ fn looping(w: LaxTrack, words: &[u32]) -> Row {
 }
 
 // The times stand behind the lengths of the two lists.
-fn values_at(t: Track, words: &[u32]) -> Row {
+fn values_at(t: Track, words: [u32; 1024]) -> Row {
     let length = length_at(words, 0);
     let room = length_at(words, 1);
     let times = floats_at(words, 2);
@@ -90,15 +117,15 @@ fn values_at(t: Track, words: &[u32]) -> Row {
     put_floats(p, values, room)
 }
 
-fn read(call: u32, t: Track, secs: f32) -> Said {
+fn read(call: u32, t: Track, secs: f32) -> Row {
     match call {
-        37 => said_value(t.value_at(Seconds(secs))),
-        38 => said_value(t.value()),
-        41 => said_seconds(t.active_time()),
-        42 => said_seconds(t.duration()),
-        43 => said_seconds(t.playback_duration()),
-        44 => said_progress(t.progress()),
-        _ => completion(t.is_complete()),
+        37 => value_row(t.value_at(Seconds(secs))),
+        38 => value_row(t.value()),
+        41 => seconds_row(t.active_time()),
+        42 => seconds_row(t.duration()),
+        43 => seconds_row(t.playback_duration()),
+        44 => progress_row(t.progress()),
+        _ => completion_row(t.is_complete()),
     }
 }
 
@@ -110,20 +137,19 @@ fn change(call: u32, t: Track, x: f32, y: f32) -> Changed {
     }
 }
 
-fn known(call: u32, w: LaxTrack, words: &[u32]) -> Row {
-    let t = track_of(w);
+fn known(call: u32, w: LaxTrack, words: [u32; 1024]) -> Row {
     let x = float_at(words, 0);
     match call {
-        34 | 46 | 47 => changed(w, change(call, t, x, float_at(words, 1))),
+        34 | 46 | 47 => changed(w, change(call, track_of(w), x, float_at(words, 1))),
         35 => push_eased(w, words),
         36 => looping(w, words),
-        39 => values_at(t, words),
-        40 => updated(w, t.update(x)),
-        _ => put_said(read(call, t, x)),
+        39 => values_at(track_of(w), words),
+        40 => updated(w, track_of(w).update(x)),
+        _ => read(call, track_of(w), x),
     }
 }
 
-pub fn answer(call: u32, w: LaxTrack, words: &[u32]) -> Row {
+pub fn answer(call: u32, w: LaxTrack, words: [u32; 1024]) -> Row {
     if call == 33 {
         return put_track(nothing(), w, Track::new());
     }
@@ -131,15 +157,4 @@ pub fn answer(call: u32, w: LaxTrack, words: &[u32]) -> Row {
         return known(call, w, words);
     }
     unknown()
-}
-
-// How many words the arguments have.
-pub fn arguments(call: u32, words: &[u32]) -> usize {
-    match call {
-        34 | 36 => 2,
-        35 => 8,
-        37 | 40 | 47 => 1,
-        39 => 2 + length_at(words, 0),
-        _ => 0,
-    }
 }

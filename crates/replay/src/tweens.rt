@@ -1,11 +1,10 @@
 // The calls of a tween.
-use crate::answers::Said;
+use crate::answers::accepted;
+use crate::answers::progress_row;
 use crate::answers::refused;
-use crate::answers::put_said;
-use crate::answers::said_progress;
-use crate::answers::said_seconds;
-use crate::answers::said_value;
+use crate::answers::seconds_row;
 use crate::answers::unknown;
+use crate::answers::value_row;
 use crate::handed::is_same_tween;
 use crate::handed::put_tween;
 use crate::lists::count_word;
@@ -26,6 +25,7 @@ use steps::run_steps;
 use tween::Changed;
 use tween::Snapped;
 use tween::Tween;
+use tween::TweenSnapshot;
 use tween::Updated;
 use units::Progress;
 use words::LaxTween;
@@ -34,47 +34,61 @@ use words::flag_word;
 use words::state_word;
 use words::tween_of;
 
+// A tween that is handed back, and the words before it. is_kept: it has to be the one that came, and
+// a 1 stands for it.
+struct Back {
+    head: Row,
+    tween: Tween,
+    is_kept: bool,
+}
+
+fn put_snapshot(now: TweenSnapshot) -> Row {
+    let state = now.state;
+    let mut p = put_float(accepted(), now.elapsed);
+    p = put_float(p, now.delay_elapsed);
+    p = put(p, state_word(state));
+    p = put(p, now.loop_count);
+    put(p, flag_word(now.ping_pong_reverse))
+}
+
 fn snapped(a: Snapped) -> Row {
     match a {
-        Snapped::Snapshot(now) => {
-            let state = now.state;
-            let mut p = put(nothing(), 0);
-            p = put_float(p, now.elapsed);
-            p = put_float(p, now.delay_elapsed);
-            p = put(p, state_word(state));
-            p = put(p, now.loop_count);
-            put(p, flag_word(now.ping_pong_reverse))
-        }
-        Snapped::Refused(refusal) => put(nothing(), refusal.number()),
+        Snapped::Snapshot(now) => put_snapshot(now),
+        Snapped::Refused(refusal) => refused(refusal),
     }
 }
 
-fn changed(came: Tween, a: Changed) -> Row {
+fn changed(a: Changed) -> Back {
     match a {
-        Changed::Done(t) => put_tween(put(nothing(), 0), t),
-        Changed::Refused { tween, refusal } => refused(
-            refusal.number(),
-            is_same_tween(tween, came),
-        ),
+        Changed::Done(tween) => Back {
+            head: accepted(),
+            tween,
+            is_kept: false,
+        },
+        Changed::Refused { tween, refusal } => Back {
+            head: refused(refusal),
+            tween,
+            is_kept: true,
+        },
     }
 }
 
-fn updated(came: Tween, a: Updated) -> Row {
+fn updated(a: Updated) -> Back {
     match a {
         Updated::Ran {
             tween,
             folds,
             running,
-        } => {
-            let mut p = put(nothing(), 0);
-            p = put(p, folds);
-            p = put(p, flag_word(running));
-            put_tween(p, tween)
-        }
-        Updated::Refused { tween, refusal } => refused(
-            refusal.number(),
-            is_same_tween(tween, came),
-        ),
+        } => Back {
+            head: put(put(accepted(), folds), flag_word(running)),
+            tween,
+            is_kept: false,
+        },
+        Updated::Refused { tween, refusal } => Back {
+            head: refused(refusal),
+            tween,
+            is_kept: true,
+        },
     }
 }
 
@@ -85,20 +99,31 @@ fn outcome_number(outcome: Outcome) -> u32 {
     }
 }
 
-// Where no step was taken a 1 stands for the tween that came.
+fn put_back(came: Tween, b: Back) -> Row {
+    let head = b.head;
+    if b.is_kept {
+        return put(head, flag_word(is_same_tween(b.tween, came)));
+    }
+    put_tween(head, b.tween)
+}
+
+// Where no step was taken the tween is kept.
 fn put_run(came: Tween, a: Run) -> Row {
     let outcome = a.outcome;
     let tween = a.tween;
-    let mut p = put(nothing(), outcome_number(outcome));
-    p = put(p, count_word(a.done));
-    if a.done == 0 {
-        return put(p, flag_word(is_same_tween(tween, came)));
-    }
-    put_tween(p, tween)
+    let head = put(put(nothing(), outcome_number(outcome)), count_word(a.done));
+    put_back(
+        came,
+        Back {
+            head,
+            tween,
+            is_kept: a.done == 0,
+        },
+    )
 }
 
 // The steps stand behind the lengths of the three lists.
-fn run(t: Tween, words: &[u32]) -> Row {
+fn run(t: Tween, words: [u32; 1024]) -> Row {
     let length = length_at(words, 0);
     let values_length = length_at(words, 1);
     let folds_length = length_at(words, 2);
@@ -115,12 +140,13 @@ fn run(t: Tween, words: &[u32]) -> Row {
     put_words(p, folds, folds_length)
 }
 
-fn read(call: u32, t: Tween) -> Said {
+fn read(call: u32, t: Tween) -> Row {
     match call {
-        18 => said_value(t.value()),
-        19 => said_progress(t.progress()),
-        20 => said_value(t.eased_progress()),
-        _ => said_seconds(t.playback_duration()),
+        18 => value_row(t.value()),
+        19 => progress_row(t.progress()),
+        20 => value_row(t.eased_progress()),
+        21 => snapped(t.snapshot()),
+        _ => seconds_row(t.playback_duration()),
     }
 }
 
@@ -134,32 +160,30 @@ fn change(call: u32, t: Tween, x: f32) -> Changed {
     }
 }
 
-fn known(call: u32, t: Tween, words: &[u32]) -> Row {
+fn moved(call: u32, t: Tween, x: f32) -> Back {
+    if call == 28 {
+        return updated(t.update(x));
+    }
+    changed(change(call, t, x))
+}
+
+fn known(call: u32, t: Tween, words: [u32; 1024]) -> Row {
     match call {
-        21 => snapped(t.snapshot()),
-        23..=27 => changed(t, change(call, t, float_at(words, 0))),
-        28 => updated(t, t.update(float_at(words, 0))),
+        23..=28 => put_back(t, moved(call, t, float_at(words, 0))),
         29 => run(t, words),
-        _ => put_said(read(call, t)),
+        _ => read(call, t),
     }
 }
 
-pub fn answer(call: u32, w: LaxTween, words: &[u32]) -> Row {
+pub fn answer(call: u32, w: LaxTween, words: [u32; 1024]) -> Row {
     if call == 17 {
-        return put_tween(nothing(), Tween::new(float_at(words, 0), float_at(words, 1)));
+        return put_tween(
+            nothing(),
+            Tween::new(float_at(words, 0), float_at(words, 1)),
+        );
     }
     match tween_of(w) {
         TweenRead::Known(t) => known(call, t, words),
         TweenRead::Unknown => unknown(),
-    }
-}
-
-// How many words the arguments have.
-pub fn arguments(call: u32, words: &[u32]) -> usize {
-    match call {
-        17 => 2,
-        24 | 28 => 1,
-        29 => 3 + length_at(words, 0),
-        _ => 0,
     }
 }

@@ -1,21 +1,28 @@
 // The list, gone through entry by entry.
-ghost use Prim.Native.Nat.{_<_};
 use crate::easings;
 use crate::given::track_in;
 use crate::given::tween_in;
+use crate::lists::length_at;
+use crate::read::Entry;
 use crate::read::next;
 use crate::tracks;
 use crate::tweens;
+use crate::word::Row;
 use crate::word::is_answer;
+use crate::word::nothing;
 use crate::word::word;
 use words::LaxTrack;
 use words::LaxTween;
 
-// The records that were last given, and what was found so far. counts has a place for each call.
-pub struct Walk {
-    pub tween: LaxTween,
-    pub track: LaxTrack,
-    pub counts: [u64; 48],
+// The records that were last given.
+struct Given {
+    tween: LaxTween,
+    track: LaxTrack,
+}
+
+// What was found so far. counts has a place for each call.
+pub struct Tally {
+    pub counts: [u64; 32],
     pub cases: u64,
     pub differences: u64,
     // The case of the first difference, from 1 on.
@@ -24,12 +31,17 @@ pub struct Walk {
     pub is_whole: bool,
 }
 
-fn begin() -> Walk {
-    let track = track_in(&[0u32; 1]);
-    let counts = [0u64; 48];
-    Walk {
-        tween: tween_in(&[0u32; 1]),
-        track,
+fn none_given() -> Given {
+    let row = nothing();
+    let words = row.list;
+    let tween = tween_in(words);
+    let track = track_in(words);
+    Given { tween, track }
+}
+
+fn begin() -> Tally {
+    let counts = [0u64; 32];
+    Tally {
         counts,
         cases: 0,
         differences: 0,
@@ -44,96 +56,125 @@ fn up(n: u64) -> u64 {
     std::num::wrapping_add_u64(n, 1)
 }
 
-fn stopped(walk: Walk, is_whole: bool) -> Walk {
-    let mut w = walk;
-    w.goes_on = false;
-    w.is_whole = is_whole;
-    w
+fn stopped(tally: Tally, is_whole: bool) -> Tally {
+    let mut t = tally;
+    t.goes_on = false;
+    t.is_whole = is_whole;
+    t
 }
 
-fn is_call(call: u32) -> bool {
+// The place of a call among all, in the order of their numbers; 32 for a number that is none.
+fn place_of(call: u32) -> usize {
     match call {
-        1..=4 | 17..=29 | 33..=47 => true,
-        _ => false,
+        1..=4 => (call - 1) as usize,
+        17..=29 => (call - 13) as usize,
+        33..=47 => (call - 16) as usize,
+        _ => 32,
     }
+}
+
+// How many words the arguments have.
+fn arguments(call: u32, words: [u32; 1024]) -> usize {
+    match call {
+        4 | 24 | 28 | 37 | 40 | 47 => 1,
+        17 | 34 | 36 => 2,
+        3 => 6,
+        1 => 7,
+        35 => 8,
+        2 => 12,
+        29 => 3 + length_at(words, 0),
+        39 => 2 + length_at(words, 0),
+        _ => 0,
+    }
+}
+
+fn answer(given: Given, call: u32, words: [u32; 1024]) -> Row {
+    if call < 16 {
+        return easings::answer(call, words);
+    }
+    if call < 32 {
+        return tweens::answer(call, given.tween, words);
+    }
+    tracks::answer(call, given.track, words)
 }
 
 // Whether the library's answer is the one in the list.
-fn agrees(tween: LaxTween, track: LaxTrack, call: u32, words: &[u32]) -> bool {
-    if call < 16 {
-        return is_answer(words, easings::arguments(call), easings::answer(call, words));
-    }
-    if call < 32 {
-        return is_answer(words, tweens::arguments(call, words), tweens::answer(call, tween, words));
-    }
-    is_answer(words, tracks::arguments(call, words), tracks::answer(call, track, words))
+fn agrees(given: Given, call: u32, row: Row) -> bool {
+    let words = row.list;
+    is_answer(
+        words,
+        row.count,
+        arguments(call, words),
+        answer(given, call, words),
+    )
 }
 
-fn compared(walk: Walk, call: u32, words: &[u32]) -> Walk {
-    let mut w = walk;
-    let place = call as usize;
-    if 47 < place {
-        return stopped(w, false);
+fn compared(tally: Tally, place: usize, is_same: bool) -> Tally {
+    let mut t = tally;
+    if 31 < place {
+        return stopped(t, false);
     }
-    w.counts[place] = up(w.counts[place]);
-    w.cases = up(w.cases);
-    let track = w.track;
-    if !agrees(w.tween, track, call, words) {
-        if w.differences == 0 {
-            w.first = w.cases;
+    t.counts[place] = up(t.counts[place]);
+    t.cases = up(t.cases);
+    if !is_same {
+        if t.differences == 0 {
+            t.first = t.cases;
         }
-        w.differences = up(w.differences);
+        t.differences = up(t.differences);
     }
-    w
+    t
 }
 
-fn took(walk: Walk, call: u32, words: &[u32]) -> Walk {
-    let mut w = walk;
+fn counted(tally: Tally, given: Given, call: u32, row: Row) -> Tally {
+    let place = place_of(call);
+    if 31 < place {
+        return stopped(tally, false);
+    }
+    compared(tally, place, agrees(given, call, row))
+}
+
+fn took(tally: Tally, given: Given, entry: Entry) -> Tally {
+    if !entry.is_whole {
+        return stopped(tally, false);
+    }
+    let row = entry.words;
+    let call = entry.call;
     match call {
         // the last entry says how many cases there are
-        0 => stopped(w, word(words, 0) as u64 == w.cases),
-        16 => {
-            w.tween = tween_in(words);
-            w
+        0 => {
+            let words = row.list;
+            stopped(tally, word(words, 0) as u64 == tally.cases)
         }
-        32 => {
-            w.track = track_in(words);
-            w
-        }
-        _ => {
-            if is_call(call) {
-                return compared(w, call, words);
-            }
-            stopped(w, false)
-        }
+        16 | 32 => tally,
+        _ => counted(tally, given, call, row),
     }
 }
 
-fn took_front(walk: Walk, call: u32, list: [u32; 1024], count: usize) -> Walk
-    requires { ⌜ count < 1024 ⌝ }
-{
-    took(walk, call, &list[..count])
-}
-
-fn step(walk: Walk, fd: i32) -> Walk {
-    let mut words = [0u32; 1024];
-    let entry = next(fd, &mut words);
-    if !entry.is_whole {
-        return stopped(walk, false);
+fn renewed(given: Given, call: u32, row: Row) -> Given {
+    let mut g = given;
+    let words = row.list;
+    if call == 16 {
+        g.tween = tween_in(words);
     }
-    took_front(walk, entry.call, words, entry.count)
+    if call == 32 {
+        g.track = track_in(words);
+    }
+    g
 }
 
 // The list ends in an entry of its own; the count of turns is more than it has.
-pub fn all(fd: i32) -> Walk {
-    let mut walk = begin();
+pub fn all(fd: i32) -> Tally {
+    let mut given = none_given();
+    let mut tally = begin();
     let mut turns: u32 = 1000000;
     while 0 < turns {
-        if !walk.goes_on {
-            return walk;
+        let entry = next(fd);
+        tally = took(tally, given, entry);
+        if !tally.goes_on {
+            return tally;
         }
-        walk = step(walk, fd);
+        given = renewed(given, entry.call, entry.words);
         turns -= 1;
     }
-    walk
+    tally
 }

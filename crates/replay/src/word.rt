@@ -6,10 +6,10 @@ ghost use lib.ListN.{getD};
 ghost use Rattle.replay.specs.Words.{wordOf, Rest};
 
 // The word at a place; 0 behind the last.
-pub fn word(words: &[u32], at: usize) -> u32
-    ensures { λ r. ⌜ r ≡ getD (now (words .entry)) at 0 ⌝ }
+pub fn word(words: [u32; 1024], at: usize) -> u32
+    ensures { λ r. ⌜ r ≡ getD words at 0 ⌝ }
 {
-    if at < words.len() { words[at] } else { 0 }
+    if at < 1024 { words[at] } else { 0 }
 }
 
 // The float of a pattern. Every NaN reads alike.
@@ -22,7 +22,7 @@ pub fn float_of(bits: u32) -> f32
     f32::from_bits(bits)
 }
 
-pub fn float_at(words: &[u32], at: usize) -> f32 {
+pub fn float_at(words: [u32; 1024], at: usize) -> f32 {
     float_of(word(words, at))
 }
 
@@ -39,7 +39,7 @@ pub fn float_word(x: f32) -> u32
     f32::to_bits(x)
 }
 
-// Words that were put one behind the other: the first count of the list.
+// Words one behind the other: the first count of the list. Behind them it is 0.
 pub struct Row {
     pub list: [u32; 1024],
     pub count: usize,
@@ -88,10 +88,13 @@ pub fn is_rest(words: &[u32], from: usize, out: &[u32], n: usize) -> bool
     true
 }
 
-// Whether the words from a place on are what was put.
-pub fn is_answer(words: &[u32], from: usize, p: Row) -> bool {
-    let list = p.list;
-    is_rest(words, from, &list, p.count)
+// Whether the first count words, from a place on, are the answer.
+pub fn is_answer(words: [u32; 1024], count: usize, from: usize, answer: Row) -> bool {
+    if 1024 < count {
+        return false;
+    }
+    let out = answer.list;
+    is_rest(&words[..count], from, &out, answer.count)
 }
 
 pub fn is_same(p: Row, q: Row) -> bool {
