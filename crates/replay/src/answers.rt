@@ -1,6 +1,7 @@
 // The library's answers as words of the list. A refused call answers its number.
 use crate::word::Row;
 use crate::word::float_word;
+use crate::word::is_same;
 use crate::word::nothing;
 use crate::word::put;
 use easing::Eased;
@@ -24,6 +25,11 @@ pub fn refused(refusal: Refusal) -> Row {
 
 pub fn accepted() -> Row {
     put(nothing(), 0)
+}
+
+// Behind the head a 1 where the record that is handed back is the one that came.
+pub fn kept(head: Row, back: Row, came: Row) -> Row {
+    put(head, flag_word(is_same(back, came)))
 }
 
 pub fn flag_row(b: bool) -> Row {

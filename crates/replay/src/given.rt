@@ -1,5 +1,6 @@
 // Records out of the words of the list.
-ghost use Prim.Native.Nat.{_<_};
+ghost use Prim.Native.Nat.{_≤_, _<_};
+use crate::handed::places;
 use crate::word::float_at;
 use crate::word::word;
 use words::LaxEasing;
@@ -57,13 +58,14 @@ fn frame_at(words: [u32; 1024], at: usize) -> LaxKeyframe
     }
 }
 
-// Places that the list has no words for are 0.
-fn frames_at(words: [u32; 1024], from: usize) -> [LaxKeyframe; 64]
+// Places behind the first count are 0.
+fn frames_at(words: [u32; 1024], from: usize, count: usize) -> [LaxKeyframe; 64]
     requires { ⌜ from < 100 ⌝ }
+    requires { ⌜ count ≤ 64 ⌝ }
 {
-    let mut frames = [frame_at(words, from); 64];
-    let mut i: usize = 1;
-    while i < 64 {
+    let mut frames = [frame_at([0u32; 1024], 0); 64];
+    let mut i: usize = 0;
+    while i < count {
         frames[i] = frame_at(words, from + 8 * i);
         i += 1;
     }
@@ -72,7 +74,7 @@ fn frames_at(words: [u32; 1024], from: usize) -> [LaxKeyframe; 64]
 
 // Its head, then its frames.
 pub fn track_in(words: [u32; 1024]) -> LaxTrack {
-    let frames = frames_at(words, 6);
+    let frames = frames_at(words, 6, places(word(words, 0)));
     LaxTrack {
         frames,
         count: word(words, 0),

@@ -1,7 +1,6 @@
 // Records that the library hands back, as words of the list.
 ghost use Prim.Native.Nat.{_≤_};
 use crate::word::Row;
-use crate::word::is_same;
 use crate::word::nothing;
 use crate::word::put;
 use crate::word::put_float;
@@ -11,7 +10,6 @@ use words::LaxEasing;
 use words::LaxKeyframe;
 use words::LaxTrack;
 use words::LaxTween;
-use words::track_of;
 use words::track_words;
 use words::tween_words;
 
@@ -46,8 +44,8 @@ pub fn put_tween(before: Row, t: Tween) -> Row {
     put(p, w.ping_pong_reverse)
 }
 
-pub fn is_same_tween(x: Tween, y: Tween) -> bool {
-    is_same(put_tween(nothing(), x), put_tween(nothing(), y))
+pub fn tween_row(t: Tween) -> Row {
+    put_tween(nothing(), t)
 }
 
 fn put_frame(before: Row, k: LaxKeyframe) -> Row {
@@ -57,7 +55,7 @@ fn put_frame(before: Row, k: LaxKeyframe) -> Row {
 }
 
 // How many of the 64 places are frames.
-fn places(count: u32) -> usize
+pub fn places(count: u32) -> usize
     ensures { λ r. ⌜ r ≤ 64 ⌝ }
 {
     if count < 64 { count as usize } else { 64 }
@@ -87,12 +85,4 @@ pub fn put_track(before: Row, came: LaxTrack, t: Track) -> Row {
     p = put(p, w.complete);
     let frames = w.frames;
     put_frames(p, frames, places(w.count))
-}
-
-// Whether the track is the one that came.
-pub fn is_same_track(came: LaxTrack, t: Track) -> bool {
-    is_same(
-        put_track(nothing(), came, t),
-        put_track(nothing(), came, track_of(came)),
-    )
 }

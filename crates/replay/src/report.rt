@@ -1,4 +1,5 @@
 // What the program writes: a line for each call, and how many of the answers differ.
+ghost use Prim.Native.Nat.{_≤_};
 ghost use Rattle.io.specs.Counts.{Counts};
 use crate::walk::Tally;
 use libc::STDOUT_FILENO;
@@ -23,16 +24,18 @@ fn end_of(names: &[u8]) -> usize
     i
 }
 
-fn named(name: &[u8], counts: [u64; 32], place: usize) {
-    if place < 32 {
+fn named(name: &[u8], counts: [u64; 48], place: usize) {
+    if place < 48 {
         io::write_all(STDOUT_FILENO, name);
         line(b" ", counts[place]);
     }
 }
 
-// A line for each name, in the order of the calls.
-fn lines(names: &[u8], counts: [u64; 32]) {
-    let mut place: usize = 0;
+// A line for each name. The first name's count stands at the place first, the others' behind it.
+fn lines(names: &[u8], counts: [u64; 48], first: usize)
+    requires { ⌜ first ≤ 48 ⌝ }
+{
+    let mut place = first;
     let mut at: usize = 0;
     while at < names.len() {
         let rest = &names[at..];
@@ -43,10 +46,21 @@ fn lines(names: &[u8], counts: [u64; 32]) {
     }
 }
 
-fn all_lines(counts: [u64; 32]) {
+fn calls(counts: [u64; 48]) {
     lines(
-        b"easing apply,easing eq,easing is_supplied,easing named,tween new,tween value,tween progress,tween eased_progress,tween snapshot,tween playback_duration,tween reset,tween seek,tween reverse,tween pause,tween resume,tween update,tween run,track new,track push,track push_eased,track looping,track value_at,track value,track values_at,track update,track active_time,track duration,track playback_duration,track progress,track is_complete,track reset,track seek_to",
+        b"easing apply,easing eq,easing is_supplied,easing named",
         counts,
+        1,
+    );
+    lines(
+        b"tween new,tween value,tween progress,tween eased_progress,tween snapshot,tween playback_duration,tween reset,tween seek,tween reverse,tween pause,tween resume,tween update,tween run",
+        counts,
+        17,
+    );
+    lines(
+        b"track new,track push,track push_eased,track looping,track value_at,track value,track values_at,track update,track active_time,track duration,track playback_duration,track progress,track is_complete,track reset,track seek_to",
+        counts,
+        33,
     );
 }
 
@@ -59,7 +73,7 @@ pub fn all(tally: Tally) {
         return;
     }
     let counts = tally.counts;
-    all_lines(counts);
+    calls(counts);
     line(b"compared ", tally.cases);
     if tally.differences != 0 {
         line(b"the first that differs is case ", tally.first);

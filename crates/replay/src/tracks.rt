@@ -1,6 +1,8 @@
 // The calls of a track.
 use crate::answers::accepted;
 use crate::answers::completion_row;
+use crate::answers::flag_row;
+use crate::answers::kept;
 use crate::answers::progress_row;
 use crate::answers::refused;
 use crate::answers::seconds_row;
@@ -8,7 +10,6 @@ use crate::answers::unknown;
 use crate::answers::value_row;
 use crate::given::easing_at;
 use crate::given::loop_at;
-use crate::handed::is_same_track;
 use crate::handed::put_track;
 use crate::lists::count_word;
 use crate::lists::floats_at;
@@ -30,62 +31,46 @@ use words::EasingRead;
 use words::LaxTrack;
 use words::LoopRead;
 use words::easing_of;
-use words::flag_word;
 use words::is_known;
 use words::loop_of;
 use words::track_of;
 
-// The words before a track that is handed back. is_kept: it has to be the one that came, and a 1
-// stands for it.
-struct Head {
-    row: Row,
-    is_kept: bool,
-}
-
-fn outcome_head(outcome: Outcome) -> Head {
+fn outcome_row(outcome: Outcome) -> Row {
     match outcome {
-        Outcome::Done => Head {
-            row: accepted(),
-            is_kept: false,
-        },
-        Outcome::Refused(refusal) => Head {
-            row: refused(refusal),
-            is_kept: true,
-        },
+        Outcome::Done => accepted(),
+        Outcome::Refused(refusal) => refused(refusal),
     }
 }
 
-fn stepped_head(stepped: Stepped) -> Head {
+fn stepped_row(stepped: Stepped) -> Row {
     match stepped {
-        Stepped::Ran { running } => Head {
-            row: put(accepted(), flag_word(running)),
-            is_kept: false,
-        },
-        Stepped::Refused(refusal) => Head {
-            row: refused(refusal),
-            is_kept: true,
-        },
+        Stepped::Ran { running } => flag_row(running),
+        Stepped::Refused(refusal) => refused(refusal),
     }
 }
 
-fn put_back(came: LaxTrack, h: Head, t: Track) -> Row {
-    let row = h.row;
-    if h.is_kept {
-        return put(row, flag_word(is_same_track(came, t)));
+// The head's first word is the call's number.
+fn put_back(came: LaxTrack, head: Row, t: Track) -> Row {
+    if head.list[0] == 0 {
+        return put_track(head, came, t);
     }
-    put_track(row, came, t)
+    kept(
+        head,
+        put_track(nothing(), came, t),
+        put_track(nothing(), came, track_of(came)),
+    )
 }
 
 fn changed(came: LaxTrack, a: Changed) -> Row {
     let outcome = a.outcome;
     let track = a.track;
-    put_back(came, outcome_head(outcome), track)
+    put_back(came, outcome_row(outcome), track)
 }
 
 fn updated(came: LaxTrack, a: Updated) -> Row {
     let stepped = a.stepped;
     let track = a.track;
-    put_back(came, stepped_head(stepped), track)
+    put_back(came, stepped_row(stepped), track)
 }
 
 fn push_eased(w: LaxTrack, words: [u32; 1024]) -> Row {

@@ -1,12 +1,13 @@
 // The calls of a tween.
 use crate::answers::accepted;
+use crate::answers::kept;
 use crate::answers::progress_row;
 use crate::answers::refused;
 use crate::answers::seconds_row;
 use crate::answers::unknown;
 use crate::answers::value_row;
-use crate::handed::is_same_tween;
 use crate::handed::put_tween;
+use crate::handed::tween_row;
 use crate::lists::count_word;
 use crate::lists::floats_at;
 use crate::lists::length_at;
@@ -34,14 +35,6 @@ use words::flag_word;
 use words::state_word;
 use words::tween_of;
 
-// A tween that is handed back, and the words before it. is_kept: it has to be the one that came, and
-// a 1 stands for it.
-struct Back {
-    head: Row,
-    tween: Tween,
-    is_kept: bool,
-}
-
 fn put_snapshot(now: TweenSnapshot) -> Row {
     let state = now.state;
     let mut p = put_float(accepted(), now.elapsed);
@@ -58,37 +51,22 @@ fn snapped(a: Snapped) -> Row {
     }
 }
 
-fn changed(a: Changed) -> Back {
+// came is the row of the tween that the call was given.
+fn changed(came: Row, a: Changed) -> Row {
     match a {
-        Changed::Done(tween) => Back {
-            head: accepted(),
-            tween,
-            is_kept: false,
-        },
-        Changed::Refused { tween, refusal } => Back {
-            head: refused(refusal),
-            tween,
-            is_kept: true,
-        },
+        Changed::Done(tween) => put_tween(accepted(), tween),
+        Changed::Refused { tween, refusal } => kept(refused(refusal), tween_row(tween), came),
     }
 }
 
-fn updated(a: Updated) -> Back {
+fn updated(came: Row, a: Updated) -> Row {
     match a {
         Updated::Ran {
             tween,
             folds,
             running,
-        } => Back {
-            head: put(put(accepted(), folds), flag_word(running)),
-            tween,
-            is_kept: false,
-        },
-        Updated::Refused { tween, refusal } => Back {
-            head: refused(refusal),
-            tween,
-            is_kept: true,
-        },
+        } => put_tween(put(put(accepted(), folds), flag_word(running)), tween),
+        Updated::Refused { tween, refusal } => kept(refused(refusal), tween_row(tween), came),
     }
 }
 
@@ -99,27 +77,15 @@ fn outcome_number(outcome: Outcome) -> u32 {
     }
 }
 
-fn put_back(came: Tween, b: Back) -> Row {
-    let head = b.head;
-    if b.is_kept {
-        return put(head, flag_word(is_same_tween(b.tween, came)));
-    }
-    put_tween(head, b.tween)
-}
-
 // Where no step was taken the tween is kept.
-fn put_run(came: Tween, a: Run) -> Row {
+fn put_run(came: Row, a: Run) -> Row {
     let outcome = a.outcome;
     let tween = a.tween;
     let head = put(put(nothing(), outcome_number(outcome)), count_word(a.done));
-    put_back(
-        came,
-        Back {
-            head,
-            tween,
-            is_kept: a.done == 0,
-        },
-    )
+    if a.done == 0 {
+        return kept(head, tween_row(tween), came);
+    }
+    put_tween(head, tween)
 }
 
 // The steps stand behind the lengths of the three lists.
@@ -136,7 +102,7 @@ fn run(t: Tween, words: [u32; 1024]) -> Row {
         &mut values[..values_length],
         &mut folds[..folds_length],
     );
-    let p = put_floats(put_run(t, a), values, values_length);
+    let p = put_floats(put_run(tween_row(t), a), values, values_length);
     put_words(p, folds, folds_length)
 }
 
@@ -160,27 +126,18 @@ fn change(call: u32, t: Tween, x: f32) -> Changed {
     }
 }
 
-fn moved(call: u32, t: Tween, x: f32) -> Back {
-    if call == 28 {
-        return updated(t.update(x));
-    }
-    changed(change(call, t, x))
-}
-
 fn known(call: u32, t: Tween, words: [u32; 1024]) -> Row {
     match call {
-        23..=28 => put_back(t, moved(call, t, float_at(words, 0))),
+        18 | 19 | 20 | 21 | 22 => read(call, t),
+        28 => updated(tween_row(t), t.update(float_at(words, 0))),
         29 => run(t, words),
-        _ => read(call, t),
+        _ => changed(tween_row(t), change(call, t, float_at(words, 0))),
     }
 }
 
 pub fn answer(call: u32, w: LaxTween, words: [u32; 1024]) -> Row {
     if call == 17 {
-        return put_tween(
-            nothing(),
-            Tween::new(float_at(words, 0), float_at(words, 1)),
-        );
+        return tween_row(Tween::new(float_at(words, 0), float_at(words, 1)));
     }
     match tween_of(w) {
         TweenRead::Known(t) => known(call, t, words),

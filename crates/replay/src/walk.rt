@@ -1,4 +1,5 @@
 // The list, gone through entry by entry.
+ghost use Prim.Native.Nat.{_<_};
 use crate::easings;
 use crate::given::track_in;
 use crate::given::tween_in;
@@ -22,7 +23,7 @@ struct Given {
 
 // What was found so far. counts has a place for each call.
 pub struct Tally {
-    pub counts: [u64; 32],
+    pub counts: [u64; 48],
     pub cases: u64,
     pub differences: u64,
     // The case of the first difference, from 1 on.
@@ -40,7 +41,7 @@ fn none_given() -> Given {
 }
 
 fn begin() -> Tally {
-    let counts = [0u64; 32];
+    let counts = [0u64; 48];
     Tally {
         counts,
         cases: 0,
@@ -63,19 +64,13 @@ fn stopped(tally: Tally, is_whole: bool) -> Tally {
     t
 }
 
-// The place of a call among all, in the order of their numbers; 32 for a number that is none.
-fn place_of(call: u32) -> usize {
-    match call {
-        1..=4 => (call - 1) as usize,
-        17..=29 => (call - 13) as usize,
-        33..=47 => (call - 16) as usize,
-        _ => 32,
-    }
-}
+// What arguments has for a number that is no call: more words than an entry can have.
+const NO_CALL: usize = 2000;
 
 // How many words the arguments have.
 fn arguments(call: u32, words: [u32; 1024]) -> usize {
     match call {
+        18 | 19 | 20 | 21 | 22 | 23 | 25 | 26 | 27 | 33 | 38 | 41 | 42 | 43 | 44 | 45 | 46 => 0,
         4 | 24 | 28 | 37 | 40 | 47 => 1,
         17 | 34 | 36 => 2,
         3 => 6,
@@ -84,7 +79,7 @@ fn arguments(call: u32, words: [u32; 1024]) -> usize {
         2 => 12,
         29 => 3 + length_at(words, 0),
         39 => 2 + length_at(words, 0),
-        _ => 0,
+        _ => NO_CALL,
     }
 }
 
@@ -98,39 +93,39 @@ fn answer(given: Given, call: u32, words: [u32; 1024]) -> Row {
     tracks::answer(call, given.track, words)
 }
 
-// Whether the library's answer is the one in the list.
-fn agrees(given: Given, call: u32, row: Row) -> bool {
-    let words = row.list;
-    is_answer(
-        words,
-        row.count,
-        arguments(call, words),
-        answer(given, call, words),
-    )
-}
-
-fn compared(tally: Tally, place: usize, is_same: bool) -> Tally {
+fn differing(tally: Tally) -> Tally {
     let mut t = tally;
-    if 31 < place {
-        return stopped(t, false);
+    if t.differences == 0 {
+        t.first = t.cases;
     }
-    t.counts[place] = up(t.counts[place]);
-    t.cases = up(t.cases);
-    if !is_same {
-        if t.differences == 0 {
-            t.first = t.cases;
-        }
-        t.differences = up(t.differences);
-    }
+    t.differences = up(t.differences);
     t
 }
 
-fn counted(tally: Tally, given: Given, call: u32, row: Row) -> Tally {
-    let place = place_of(call);
-    if 31 < place {
+fn compared(tally: Tally, call: u32, is_same: bool) -> Tally
+    requires { ⌜ call < 48 ⌝ }
+{
+    let mut t = tally;
+    let place = call as usize;
+    t.counts[place] = up(t.counts[place]);
+    t.cases = up(t.cases);
+    if is_same {
+        return t;
+    }
+    differing(t)
+}
+
+// Whether the library's answer is the one in the list.
+fn counted(tally: Tally, given: Given, call: u32, row: Row) -> Tally
+    requires { ⌜ call < 48 ⌝ }
+{
+    let words = row.list;
+    let from = arguments(call, words);
+    if from == NO_CALL {
         return stopped(tally, false);
     }
-    compared(tally, place, agrees(given, call, row))
+    let agrees = is_answer(words, row.count, from, answer(given, call, words));
+    compared(tally, call, agrees)
 }
 
 fn took(tally: Tally, given: Given, entry: Entry) -> Tally {
@@ -139,6 +134,9 @@ fn took(tally: Tally, given: Given, entry: Entry) -> Tally {
     }
     let row = entry.words;
     let call = entry.call;
+    if 47 < call {
+        return stopped(tally, false);
+    }
     match call {
         // the last entry says how many cases there are
         0 => {
