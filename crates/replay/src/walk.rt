@@ -64,7 +64,7 @@ fn stopped(tally: Tally, is_whole: bool) -> Tally {
     t
 }
 
-// What arguments has for a number that is no call: more words than an entry can have.
+// In place of a count of words, for a number that is no call; no entry has so many.
 const NO_CALL: usize = 2000;
 
 // How many words the arguments have.
@@ -93,6 +93,7 @@ fn answer(given: Given, call: u32, words: [u32; 1024]) -> Row {
     tracks::answer(call, given.track, words)
 }
 
+// The case that was counted last differs.
 fn differing(tally: Tally) -> Tally {
     let mut t = tally;
     if t.differences == 0 {
@@ -115,7 +116,7 @@ fn compared(tally: Tally, call: u32, is_same: bool) -> Tally
     differing(t)
 }
 
-// Whether the library's answer is the one in the list.
+// A call: its arguments, and behind them the answer that the library has to give.
 fn counted(tally: Tally, given: Given, call: u32, row: Row) -> Tally
     requires { ⌜ call < 48 ⌝ }
 {
