@@ -1,60 +1,76 @@
-// The library's answers as words of the list. A refused call answers its number, and where it hands a
-// record back a 1, for the one that came.
+// The library's answers as words of the list. A refused call answers its number.
+use crate::word::Row;
 use crate::word::float_word;
+use crate::word::is_same;
+use crate::word::nothing;
 use crate::word::put;
 use easing::Eased;
+use easing::Equality;
+use keyframe::Completion;
 use refusal::Refusal;
 use units::InProgress;
 use units::InSeconds;
 use words::flag_word;
 
-// What a call answers that hands no record back.
-pub enum Said {
-    Float(f32),
-    Flag(bool),
-    Refused(Refusal),
-}
-
-pub fn said_value(a: Eased) -> Said {
-    match a {
-        Eased::Value(x) => Said::Float(x),
-        Eased::Refused(refusal) => Said::Refused(refusal),
-    }
-}
-
-pub fn said_seconds(a: InSeconds) -> Said {
-    match a {
-        InSeconds::Seconds(s) => Said::Float(s.0),
-        InSeconds::Refused(refusal) => Said::Refused(refusal),
-    }
-}
-
-pub fn said_progress(a: InProgress) -> Said {
-    match a {
-        InProgress::Progress(p) => Said::Float(p.0),
-        InProgress::Refused(refusal) => Said::Refused(refusal),
-    }
-}
-
-fn put_accepted(out: &mut [u32], w: u32) -> usize {
-    let n = put(out, 0, 0);
-    put(out, n, w)
-}
-
-pub fn put_said(out: &mut [u32], a: Said) -> usize {
-    match a {
-        Said::Float(x) => put_accepted(out, float_word(x)),
-        Said::Flag(b) => put_accepted(out, flag_word(b)),
-        Said::Refused(refusal) => put(out, 0, refusal.number()),
-    }
-}
-
-pub fn put_refused(out: &mut [u32], number: u32, is_kept: bool) -> usize {
-    let n = put(out, 0, number);
-    put(out, n, flag_word(is_kept))
-}
-
 // The number where a word is no kind, no mode or no state.
-pub fn put_unknown(out: &mut [u32]) -> usize {
-    put(out, 0, 100)
+const UNKNOWN: u32 = 100;
+
+pub fn unknown() -> Row {
+    put(nothing(), UNKNOWN)
+}
+
+pub fn refused(refusal: Refusal) -> Row {
+    put(nothing(), refusal.number())
+}
+
+pub fn accepted() -> Row {
+    put(nothing(), 0)
+}
+
+// Behind the head a 1 where the record that is handed back is the one that came.
+pub fn kept(head: Row, back: Row, came: Row) -> Row {
+    put(head, flag_word(is_same(back, came)))
+}
+
+pub fn flag_row(b: bool) -> Row {
+    put(accepted(), flag_word(b))
+}
+
+fn float_row(x: f32) -> Row {
+    put(accepted(), float_word(x))
+}
+
+pub fn value_row(a: Eased) -> Row {
+    match a {
+        Eased::Value(x) => float_row(x),
+        Eased::Refused(refusal) => refused(refusal),
+    }
+}
+
+pub fn seconds_row(a: InSeconds) -> Row {
+    match a {
+        InSeconds::Seconds(s) => float_row(s.0),
+        InSeconds::Refused(refusal) => refused(refusal),
+    }
+}
+
+pub fn progress_row(a: InProgress) -> Row {
+    match a {
+        InProgress::Progress(p) => float_row(p.0),
+        InProgress::Refused(refusal) => refused(refusal),
+    }
+}
+
+pub fn equality_row(a: Equality) -> Row {
+    match a {
+        Equality::Equal(b) => flag_row(b),
+        Equality::Refused(refusal) => refused(refusal),
+    }
+}
+
+pub fn completion_row(a: Completion) -> Row {
+    match a {
+        Completion::Complete(b) => flag_row(b),
+        Completion::Refused(refusal) => refused(refusal),
+    }
 }

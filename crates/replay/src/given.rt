@@ -1,5 +1,6 @@
 // Records out of the words of the list.
-ghost use Prim.Native.Nat.{_<_};
+ghost use Prim.Native.Nat.{_≤_, _<_};
+use crate::handed::places;
 use crate::word::float_at;
 use crate::word::word;
 use words::LaxEasing;
@@ -8,7 +9,7 @@ use words::LaxLoop;
 use words::LaxTrack;
 use words::LaxTween;
 
-pub fn easing_at(words: &[u32], at: usize) -> LaxEasing
+pub fn easing_at(words: [u32; 1024], at: usize) -> LaxEasing
     requires { ⌜ at < 1024 ⌝ }
 {
     LaxEasing {
@@ -21,7 +22,7 @@ pub fn easing_at(words: &[u32], at: usize) -> LaxEasing
     }
 }
 
-pub fn loop_at(words: &[u32], at: usize) -> LaxLoop
+pub fn loop_at(words: [u32; 1024], at: usize) -> LaxLoop
     requires { ⌜ at < 1024 ⌝ }
 {
     LaxLoop {
@@ -30,7 +31,7 @@ pub fn loop_at(words: &[u32], at: usize) -> LaxLoop
     }
 }
 
-pub fn tween_in(words: &[u32]) -> LaxTween {
+pub fn tween_in(words: [u32; 1024]) -> LaxTween {
     LaxTween {
         start: float_at(words, 0),
         end: float_at(words, 1),
@@ -47,7 +48,7 @@ pub fn tween_in(words: &[u32]) -> LaxTween {
     }
 }
 
-fn frame_at(words: &[u32], at: usize) -> LaxKeyframe
+fn frame_at(words: [u32; 1024], at: usize) -> LaxKeyframe
     requires { ⌜ at < 1000 ⌝ }
 {
     LaxKeyframe {
@@ -57,13 +58,14 @@ fn frame_at(words: &[u32], at: usize) -> LaxKeyframe
     }
 }
 
-// Places that the list has no words for are 0.
-fn frames_at(words: &[u32], from: usize) -> [LaxKeyframe; 64]
+// Places behind the first count are 0.
+fn frames_at(words: [u32; 1024], from: usize, count: usize) -> [LaxKeyframe; 64]
     requires { ⌜ from < 100 ⌝ }
+    requires { ⌜ count ≤ 64 ⌝ }
 {
-    let mut frames = [frame_at(words, from); 64];
-    let mut i: usize = 1;
-    while i < 64 {
+    let mut frames = [frame_at([0u32; 1024], 0); 64];
+    let mut i: usize = 0;
+    while i < count {
         frames[i] = frame_at(words, from + 8 * i);
         i += 1;
     }
@@ -71,8 +73,8 @@ fn frames_at(words: &[u32], from: usize) -> [LaxKeyframe; 64]
 }
 
 // Its head, then its frames.
-pub fn track_in(words: &[u32]) -> LaxTrack {
-    let frames = frames_at(words, 6);
+pub fn track_in(words: [u32; 1024]) -> LaxTrack {
+    let frames = frames_at(words, 6, places(word(words, 0)));
     LaxTrack {
         frames,
         count: word(words, 0),

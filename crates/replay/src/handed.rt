@@ -1,6 +1,7 @@
 // Records that the library hands back, as words of the list.
 ghost use Prim.Native.Nat.{_≤_};
-use crate::word::is_rest;
+use crate::word::Row;
+use crate::word::nothing;
 use crate::word::put;
 use crate::word::put_float;
 use keyframe::Track;
@@ -9,93 +10,79 @@ use words::LaxEasing;
 use words::LaxKeyframe;
 use words::LaxTrack;
 use words::LaxTween;
-use words::track_of;
 use words::track_words;
 use words::tween_words;
 
-pub fn put_easing(out: &mut [u32], from: usize, e: LaxEasing) -> usize {
-    let mut n = put(out, from, e.kind);
-    n = put_float(out, n, e.a);
-    n = put_float(out, n, e.b);
-    n = put_float(out, n, e.c);
-    n = put_float(out, n, e.d);
-    put(out, n, e.count)
+pub fn put_easing(before: Row, e: LaxEasing) -> Row {
+    let mut p = put(before, e.kind);
+    p = put_float(p, e.a);
+    p = put_float(p, e.b);
+    p = put_float(p, e.c);
+    p = put_float(p, e.d);
+    put(p, e.count)
 }
 
 // What stays while a tween runs.
-fn put_settings(out: &mut [u32], from: usize, w: LaxTween) -> usize {
-    let mut n = put_float(out, from, w.start);
-    n = put_float(out, n, w.end);
-    n = put_float(out, n, w.duration);
-    n = put_easing(out, n, w.easing);
-    n = put_float(out, n, w.delay);
-    n = put_float(out, n, w.time_scale);
-    n = put(out, n, w.looping.mode);
-    put(out, n, w.looping.passes)
+fn put_settings(before: Row, w: LaxTween) -> Row {
+    let mut p = put_float(before, w.start);
+    p = put_float(p, w.end);
+    p = put_float(p, w.duration);
+    p = put_easing(p, w.easing);
+    p = put_float(p, w.delay);
+    p = put_float(p, w.time_scale);
+    p = put(p, w.looping.mode);
+    put(p, w.looping.passes)
 }
 
-pub fn put_tween(out: &mut [u32], from: usize, t: Tween) -> usize {
+pub fn put_tween(before: Row, t: Tween) -> Row {
     let w = tween_words(t);
-    let mut n = put_settings(out, from, w);
-    n = put_float(out, n, w.elapsed);
-    n = put_float(out, n, w.delay_elapsed);
-    n = put(out, n, w.state);
-    n = put(out, n, w.loop_count);
-    put(out, n, w.ping_pong_reverse)
+    let mut p = put_settings(before, w);
+    p = put_float(p, w.elapsed);
+    p = put_float(p, w.delay_elapsed);
+    p = put(p, w.state);
+    p = put(p, w.loop_count);
+    put(p, w.ping_pong_reverse)
 }
 
-pub fn is_same_tween(x: Tween, y: Tween) -> bool {
-    let mut left = [0u32; 18];
-    let mut right = [0u32; 18];
-    put_tween(&mut left, 0, x);
-    put_tween(&mut right, 0, y);
-    is_rest(&left, 0, &right, 18)
+pub fn tween_row(t: Tween) -> Row {
+    put_tween(nothing(), t)
 }
 
-fn put_frame(out: &mut [u32], from: usize, k: LaxKeyframe) -> usize {
-    let mut n = put_float(out, from, k.time);
-    n = put_float(out, n, k.value);
-    put_easing(out, n, k.easing)
+fn put_frame(before: Row, k: LaxKeyframe) -> Row {
+    let mut p = put_float(before, k.time);
+    p = put_float(p, k.value);
+    put_easing(p, k.easing)
 }
 
 // How many of the 64 places are frames.
-fn places(count: u32) -> usize
+pub fn places(count: u32) -> usize
     ensures { λ r. ⌜ r ≤ 64 ⌝ }
 {
     if count < 64 { count as usize } else { 64 }
 }
 
-fn put_frames(out: &mut [u32], from: usize, frames: [LaxKeyframe; 64], count: usize) -> usize
+fn put_frames(before: Row, frames: [LaxKeyframe; 64], count: usize) -> Row
     requires { ⌜ count ≤ 64 ⌝ }
 {
-    let mut n = from;
+    let mut p = before;
     let mut i: usize = 0;
     while i < count {
-        n = put_frame(out, n, frames[i]);
+        p = put_frame(p, frames[i]);
         i += 1;
     }
-    n
+    p
 }
 
 // Its head, then its frames. came is the track that the call was given.
-pub fn put_track(out: &mut [u32], from: usize, came: LaxTrack, t: Track) -> usize {
+pub fn put_track(before: Row, came: LaxTrack, t: Track) -> Row {
     let behind = came.frames;
     let w = track_words(behind, t);
-    let mut n = put(out, from, w.count);
-    n = put_float(out, n, w.elapsed);
-    n = put(out, n, w.looping.mode);
-    n = put(out, n, w.looping.passes);
-    n = put(out, n, w.loop_count);
-    n = put(out, n, w.complete);
+    let mut p = put(before, w.count);
+    p = put_float(p, w.elapsed);
+    p = put(p, w.looping.mode);
+    p = put(p, w.looping.passes);
+    p = put(p, w.loop_count);
+    p = put(p, w.complete);
     let frames = w.frames;
-    put_frames(out, n, frames, places(w.count))
-}
-
-// Whether the track is the one that came.
-pub fn is_same_track(came: LaxTrack, t: Track) -> bool {
-    let mut left = [0u32; 518];
-    let mut right = [0u32; 518];
-    put_track(&mut left, 0, came, t);
-    put_track(&mut right, 0, came, track_of(came));
-    is_rest(&left, 0, &right, 518)
+    put_frames(p, frames, places(w.count))
 }

@@ -2,6 +2,7 @@
 ghost use mathlib.Core.Path.{_≡_};
 ghost use Prim.Native.Nat.{_≤_, _<_};
 ghost use lib.ListN.{length};
+use crate::word::Row;
 use crate::word::float_at;
 use crate::word::float_of;
 use crate::word::put;
@@ -12,7 +13,7 @@ use crate::word::word;
 const MARK: u32 = 0x7149_f2ca;
 
 // A length among the words; 128 for one above.
-pub fn length_at(words: &[u32], at: usize) -> usize
+pub fn length_at(words: [u32; 1024], at: usize) -> usize
     ensures { λ r. ⌜ r ≤ 128 ⌝ }
 {
     let n = word(words, at) as usize;
@@ -31,7 +32,7 @@ pub fn mark_words() -> [u32; 128]
     [MARK; 128]
 }
 
-pub fn floats_at(words: &[u32], from: usize) -> [f32; 128]
+pub fn floats_at(words: [u32; 1024], from: usize) -> [f32; 128]
     requires { ⌜ from < 100 ⌝ }
     ensures { λ r. ⌜ length r ≡ 128 ⌝ }
 {
@@ -45,28 +46,28 @@ pub fn floats_at(words: &[u32], from: usize) -> [f32; 128]
 }
 
 // The first floats of a list.
-pub fn put_floats(out: &mut [u32], from: usize, list: &[f32; 128], count: usize) -> usize
+pub fn put_floats(before: Row, list: [f32; 128], count: usize) -> Row
     requires { ⌜ count ≤ 128 ⌝ }
 {
-    let mut n = from;
+    let mut p = before;
     let mut i: usize = 0;
     while i < count {
-        n = put_float(out, n, list[i]);
+        p = put_float(p, list[i]);
         i += 1;
     }
-    n
+    p
 }
 
-pub fn put_words(out: &mut [u32], from: usize, list: &[u32; 128], count: usize) -> usize
+pub fn put_words(before: Row, list: [u32; 128], count: usize) -> Row
     requires { ⌜ count ≤ 128 ⌝ }
 {
-    let mut n = from;
+    let mut p = before;
     let mut i: usize = 0;
     while i < count {
-        n = put(out, n, list[i]);
+        p = put(p, list[i]);
         i += 1;
     }
-    n
+    p
 }
 
 pub fn count_word(n: usize) -> u32 {

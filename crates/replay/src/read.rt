@@ -1,12 +1,19 @@
 // Entries of the list: a word that has what the entry is and, times 256, how many words follow; then
 // these. A word has its low byte first.
-ghost use Prim.Native.Nat.{_<_};
+ghost use Prim.Native.Nat.{_≤_, _<_};
+use crate::word::Row;
+use crate::word::nothing;
 
-// At most 1,023 words.
 pub struct Entry {
     pub is_whole: bool,
     pub call: u32,
-    pub count: usize,
+    pub words: Row,
+}
+
+// Bytes that were read; is_whole: as many as were asked for.
+struct Part {
+    is_whole: bool,
+    bytes: [u8; 4096],
 }
 
 fn wide(b: u8) -> u32
@@ -19,50 +26,62 @@ fn joined(a: u8, b: u8, c: u8, d: u8) -> u32 {
     wide(a) + 0x100 * wide(b) + 0x1_0000 * wide(c) + 0x100_0000 * wide(d)
 }
 
-fn fill(words: &mut [u32; 1024], bytes: &[u8; 4096], count: usize)
-    requires { ⌜ count < 1024 ⌝ }
+fn taken(fd: i32, size: usize) -> Part
+    requires { ⌜ size ≤ 4096 ⌝ }
 {
+    let mut bytes = io::buffer();
+    let n = io::read_full(fd, &mut bytes[..size]);
+    Part {
+        is_whole: n == size,
+        bytes,
+    }
+}
+
+fn row_of(bytes: [u8; 4096], count: usize) -> Row
+    requires { ⌜ count ≤ 1024 ⌝ }
+{
+    let mut list = [0u32; 1024];
     let mut i: usize = 0;
     while i < count {
         let at = 4 * i;
-        words[i] = joined(bytes[at], bytes[at + 1], bytes[at + 2], bytes[at + 3]);
+        list[i] = joined(bytes[at], bytes[at + 1], bytes[at + 2], bytes[at + 3]);
         i += 1;
     }
+    Row { list, count }
 }
 
 // Where the list ends, or cannot be read.
-fn cut() -> Entry
-    ensures { λ r. ⌜ r .count < 1024 ⌝ }
-{
+fn cut() -> Entry {
     Entry {
         is_whole: false,
         call: 0,
-        count: 0,
+        words: nothing(),
     }
 }
 
-// The words of the next entry go into the front of words.
-pub fn next(fd: i32, words: &mut [u32; 1024]) -> Entry
-    ensures { λ r. ⌜ r .count < 1024 ⌝ }
-{
-    let mut head = [0u8; 4];
-    if io::read_full(fd, &mut head) != 4 {
-        return cut();
-    }
-    let first = joined(head[0], head[1], head[2], head[3]);
+// The words of an entry, from what its first word says.
+fn body(fd: i32, first: u32) -> Entry {
     let count = (first / 256) as usize;
     if 1023 < count {
         return cut();
     }
-    let mut bytes = io::buffer();
-    let size = 4 * count;
-    if io::read_full(fd, &mut bytes[..size]) != size {
+    let rest = taken(fd, 4 * count);
+    if !rest.is_whole {
         return cut();
     }
-    fill(words, &bytes, count);
+    let bytes = rest.bytes;
     Entry {
         is_whole: true,
         call: first % 256,
-        count,
+        words: row_of(bytes, count),
     }
+}
+
+pub fn next(fd: i32) -> Entry {
+    let head = taken(fd, 4);
+    if !head.is_whole {
+        return cut();
+    }
+    let b = head.bytes;
+    body(fd, joined(b[0], b[1], b[2], b[3]))
 }

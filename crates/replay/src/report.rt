@@ -1,7 +1,7 @@
 // What the program writes: a line for each call, and how many of the answers differ.
 ghost use Prim.Native.Nat.{_≤_};
 ghost use Rattle.io.specs.Counts.{Counts};
-use crate::walk::Walk;
+use crate::walk::Tally;
 use libc::STDOUT_FILENO;
 
 fn line(name: &[u8], n: u64) {
@@ -10,13 +10,13 @@ fn line(name: &[u8], n: u64) {
     io::write_all(STDOUT_FILENO, b"\n");
 }
 
-// Where the first name ends: the place of the first space, or the length.
+// Where the first name ends: the place of the first comma, or the length.
 fn end_of(names: &[u8]) -> usize
     ensures { λ r. ⌜ Counts r (now (names .entry)) ⌝ }
 {
     let mut i: usize = 0;
     while i < names.len() {
-        if names[i] == b' ' {
+        if names[i] == b',' {
             return i;
         }
         i += 1;
@@ -24,16 +24,15 @@ fn end_of(names: &[u8]) -> usize
     i
 }
 
-fn named(subject: &[u8], name: &[u8], counts: [u64; 48], place: usize) {
+fn named(name: &[u8], counts: [u64; 48], place: usize) {
     if place < 48 {
-        io::write_all(STDOUT_FILENO, subject);
         io::write_all(STDOUT_FILENO, name);
         line(b" ", counts[place]);
     }
 }
 
 // A line for each name. The first name's count stands at the place first, the others' behind it.
-fn lines(subject: &[u8], names: &[u8], counts: [u64; 48], first: usize)
+fn lines(names: &[u8], counts: [u64; 48], first: usize)
     requires { ⌜ first ≤ 48 ⌝ }
 {
     let mut place = first;
@@ -41,37 +40,43 @@ fn lines(subject: &[u8], names: &[u8], counts: [u64; 48], first: usize)
     while at < names.len() {
         let rest = &names[at..];
         let n = end_of(rest);
-        named(subject, &rest[..n], counts, place);
+        named(&rest[..n], counts, place);
         place += 1;
         at += n + 1;
     }
 }
 
-pub fn all(walk: Walk) {
-    if !walk.is_whole {
-        line(
-            b"the list is cut or cannot be read behind case ",
-            walk.cases,
-        );
-        return;
-    }
-    let counts = walk.counts;
-    lines(b"easing ", b"apply eq is_supplied named", counts, 1);
+fn calls(counts: [u64; 48]) {
     lines(
-        b"tween ",
-        b"new value progress eased_progress snapshot playback_duration reset seek reverse pause resume update run",
+        b"easing apply,easing eq,easing is_supplied,easing named",
+        counts,
+        1,
+    );
+    lines(
+        b"tween new,tween value,tween progress,tween eased_progress,tween snapshot,tween playback_duration,tween reset,tween seek,tween reverse,tween pause,tween resume,tween update,tween run",
         counts,
         17,
     );
     lines(
-        b"track ",
-        b"new push push_eased looping value_at value values_at update active_time duration playback_duration progress is_complete reset seek_to",
+        b"track new,track push,track push_eased,track looping,track value_at,track value,track values_at,track update,track active_time,track duration,track playback_duration,track progress,track is_complete,track reset,track seek_to",
         counts,
         33,
     );
-    line(b"compared ", walk.cases);
-    if walk.differences != 0 {
-        line(b"the first that differs is case ", walk.first);
+}
+
+pub fn all(tally: Tally) {
+    if !tally.is_whole {
+        line(
+            b"the list is cut or cannot be read behind case ",
+            tally.cases,
+        );
+        return;
     }
-    line(b"differences ", walk.differences);
+    let counts = tally.counts;
+    calls(counts);
+    line(b"compared ", tally.cases);
+    if tally.differences != 0 {
+        line(b"the first that differs is case ", tally.first);
+    }
+    line(b"differences ", tally.differences);
 }

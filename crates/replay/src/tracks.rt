@@ -1,24 +1,26 @@
 // The calls of a track.
-use crate::answers::Said;
-use crate::answers::put_refused;
-use crate::answers::put_said;
-use crate::answers::put_unknown;
-use crate::answers::said_progress;
-use crate::answers::said_seconds;
-use crate::answers::said_value;
+use crate::answers::accepted;
+use crate::answers::completion_row;
+use crate::answers::flag_row;
+use crate::answers::kept;
+use crate::answers::progress_row;
+use crate::answers::refused;
+use crate::answers::seconds_row;
+use crate::answers::unknown;
+use crate::answers::value_row;
 use crate::given::easing_at;
 use crate::given::loop_at;
-use crate::handed::is_same_track;
 use crate::handed::put_track;
 use crate::lists::count_word;
 use crate::lists::floats_at;
 use crate::lists::length_at;
 use crate::lists::marks;
 use crate::lists::put_floats;
+use crate::word::Row;
 use crate::word::float_at;
+use crate::word::nothing;
 use crate::word::put;
 use keyframe::Changed;
-use keyframe::Completion;
 use keyframe::Outcome;
 use keyframe::Stepped;
 use keyframe::Track;
@@ -29,80 +31,86 @@ use words::EasingRead;
 use words::LaxTrack;
 use words::LoopRead;
 use words::easing_of;
-use words::flag_word;
 use words::is_known;
 use words::loop_of;
 use words::track_of;
 
-fn put_changed(out: &mut [u32], came: LaxTrack, a: Changed) -> usize {
+fn outcome_row(outcome: Outcome) -> Row {
+    match outcome {
+        Outcome::Done => accepted(),
+        Outcome::Refused(refusal) => refused(refusal),
+    }
+}
+
+fn stepped_row(stepped: Stepped) -> Row {
+    match stepped {
+        Stepped::Ran { running } => flag_row(running),
+        Stepped::Refused(refusal) => refused(refusal),
+    }
+}
+
+// The head's first word is the call's number.
+fn put_back(came: LaxTrack, head: Row, t: Track) -> Row {
+    if head.list[0] == 0 {
+        return put_track(head, came, t);
+    }
+    kept(
+        head,
+        put_track(nothing(), came, t),
+        put_track(nothing(), came, track_of(came)),
+    )
+}
+
+fn changed(came: LaxTrack, a: Changed) -> Row {
     let outcome = a.outcome;
     let track = a.track;
-    match outcome {
-        Outcome::Done => {
-            let n = put(out, 0, 0);
-            put_track(out, n, came, track)
-        }
-        Outcome::Refused(refusal) => put_refused(out, refusal.number(), is_same_track(came, track)),
-    }
+    put_back(came, outcome_row(outcome), track)
 }
 
-fn put_updated(out: &mut [u32], came: LaxTrack, a: Updated) -> usize {
+fn updated(came: LaxTrack, a: Updated) -> Row {
     let stepped = a.stepped;
     let track = a.track;
-    match stepped {
-        Stepped::Ran { running } => {
-            let mut n = put(out, 0, 0);
-            n = put(out, n, flag_word(running));
-            put_track(out, n, came, track)
-        }
-        Stepped::Refused(refusal) => put_refused(out, refusal.number(), is_same_track(came, track)),
+    put_back(came, stepped_row(stepped), track)
+}
+
+fn push_eased(w: LaxTrack, words: [u32; 1024]) -> Row {
+    match easing_of(easing_at(words, 2)) {
+        EasingRead::Known(e) => changed(
+            w,
+            track_of(w).push_eased(float_at(words, 0), float_at(words, 1), e),
+        ),
+        EasingRead::Unknown => unknown(),
     }
 }
 
-fn completion(a: Completion) -> Said {
-    match a {
-        Completion::Complete(b) => Said::Flag(b),
-        Completion::Refused(refusal) => Said::Refused(refusal),
-    }
-}
-
-fn push_eased(w: LaxTrack, words: &[u32], out: &mut [u32]) -> usize {
-    let EasingRead::Known(e) = easing_of(easing_at(words, 2)) else {
-        return put_unknown(out);
-    };
-    let a = track_of(w).push_eased(float_at(words, 0), float_at(words, 1), e);
-    put_changed(out, w, a)
-}
-
-fn looping(w: LaxTrack, words: &[u32], out: &mut [u32]) -> usize {
+fn looping(w: LaxTrack, words: [u32; 1024]) -> Row {
     match loop_of(loop_at(words, 0)) {
-        LoopRead::Known(mode) => put_changed(out, w, track_of(w).looping(mode)),
-        LoopRead::Unknown => put_unknown(out),
+        LoopRead::Known(mode) => changed(w, track_of(w).looping(mode)),
+        LoopRead::Unknown => unknown(),
     }
 }
 
 // The times stand behind the lengths of the two lists.
-fn values_at(t: Track, words: &[u32], out: &mut [u32]) -> usize {
+fn values_at(t: Track, words: [u32; 1024]) -> Row {
     let length = length_at(words, 0);
     let room = length_at(words, 1);
     let times = floats_at(words, 2);
     let mut values = marks();
     let mut number: u32 = 0;
     let filled = t.fill_values(&times[..length], &mut values[..room], &mut number);
-    let mut n = put(out, 0, number);
-    n = put(out, n, count_word(filled));
-    put_floats(out, n, &values, room)
+    let p = put(put(nothing(), number), count_word(filled));
+    put_floats(p, values, room)
 }
 
-fn read(call: u32, t: Track, secs: f32) -> Said {
+fn read(call: u32, t: Track, secs: f32) -> Row {
     match call {
-        37 => said_value(t.value_at(Seconds(secs))),
-        38 => said_value(t.value()),
-        41 => said_seconds(t.active_time()),
-        42 => said_seconds(t.duration()),
-        43 => said_seconds(t.playback_duration()),
-        44 => said_progress(t.progress()),
-        _ => completion(t.is_complete()),
+        37 => value_row(t.value_at(Seconds(secs))),
+        38 => value_row(t.value()),
+        41 => seconds_row(t.active_time()),
+        42 => seconds_row(t.duration()),
+        43 => seconds_row(t.playback_duration()),
+        44 => progress_row(t.progress()),
+        _ => completion_row(t.is_complete()),
     }
 }
 
@@ -114,37 +122,24 @@ fn change(call: u32, t: Track, x: f32, y: f32) -> Changed {
     }
 }
 
-fn known(call: u32, w: LaxTrack, words: &[u32], out: &mut [u32]) -> usize {
-    let t = track_of(w);
+fn known(call: u32, w: LaxTrack, words: [u32; 1024]) -> Row {
     let x = float_at(words, 0);
     match call {
-        34 | 46 | 47 => put_changed(out, w, change(call, t, x, float_at(words, 1))),
-        35 => push_eased(w, words, out),
-        36 => looping(w, words, out),
-        39 => values_at(t, words, out),
-        40 => put_updated(out, w, t.update(x)),
-        _ => put_said(out, read(call, t, x)),
+        34 | 46 | 47 => changed(w, change(call, track_of(w), x, float_at(words, 1))),
+        35 => push_eased(w, words),
+        36 => looping(w, words),
+        39 => values_at(track_of(w), words),
+        40 => updated(w, track_of(w).update(x)),
+        _ => read(call, track_of(w), x),
     }
 }
 
-// The answer goes into the front of out. Answers how many words it has.
-pub fn answer(call: u32, w: LaxTrack, words: &[u32], out: &mut [u32]) -> usize {
+pub fn answer(call: u32, w: LaxTrack, words: [u32; 1024]) -> Row {
     if call == 33 {
-        return put_track(out, 0, w, Track::new());
+        return put_track(nothing(), w, Track::new());
     }
     if is_known(w) {
-        return known(call, w, words, out);
+        return known(call, w, words);
     }
-    put_unknown(out)
-}
-
-// How many words the arguments have.
-pub fn arguments(call: u32, words: &[u32]) -> usize {
-    match call {
-        34 | 36 => 2,
-        35 => 8,
-        37 | 40 | 47 => 1,
-        39 => 2 + length_at(words, 0),
-        _ => 0,
-    }
+    unknown()
 }

@@ -1,13 +1,13 @@
 // The calls of a tween.
-use crate::answers::Said;
-use crate::answers::put_refused;
-use crate::answers::put_said;
-use crate::answers::put_unknown;
-use crate::answers::said_progress;
-use crate::answers::said_seconds;
-use crate::answers::said_value;
-use crate::handed::is_same_tween;
+use crate::answers::accepted;
+use crate::answers::kept;
+use crate::answers::progress_row;
+use crate::answers::refused;
+use crate::answers::seconds_row;
+use crate::answers::unknown;
+use crate::answers::value_row;
 use crate::handed::put_tween;
+use crate::handed::tween_row;
 use crate::lists::count_word;
 use crate::lists::floats_at;
 use crate::lists::length_at;
@@ -15,7 +15,9 @@ use crate::lists::mark_words;
 use crate::lists::marks;
 use crate::lists::put_floats;
 use crate::lists::put_words;
+use crate::word::Row;
 use crate::word::float_at;
+use crate::word::nothing;
 use crate::word::put;
 use crate::word::put_float;
 use steps::Outcome;
@@ -24,6 +26,7 @@ use steps::run_steps;
 use tween::Changed;
 use tween::Snapped;
 use tween::Tween;
+use tween::TweenSnapshot;
 use tween::Updated;
 use units::Progress;
 use words::LaxTween;
@@ -32,52 +35,38 @@ use words::flag_word;
 use words::state_word;
 use words::tween_of;
 
-fn put_snapshot(out: &mut [u32], a: Snapped) -> usize {
+fn put_snapshot(now: TweenSnapshot) -> Row {
+    let state = now.state;
+    let mut p = put_float(accepted(), now.elapsed);
+    p = put_float(p, now.delay_elapsed);
+    p = put(p, state_word(state));
+    p = put(p, now.loop_count);
+    put(p, flag_word(now.ping_pong_reverse))
+}
+
+fn snapped(a: Snapped) -> Row {
     match a {
-        Snapped::Snapshot(now) => {
-            let state = now.state;
-            let mut n = put(out, 0, 0);
-            n = put_float(out, n, now.elapsed);
-            n = put_float(out, n, now.delay_elapsed);
-            n = put(out, n, state_word(state));
-            n = put(out, n, now.loop_count);
-            put(out, n, flag_word(now.ping_pong_reverse))
-        }
-        Snapped::Refused(refusal) => put(out, 0, refusal.number()),
+        Snapped::Snapshot(now) => put_snapshot(now),
+        Snapped::Refused(refusal) => refused(refusal),
     }
 }
 
-fn put_changed(out: &mut [u32], came: Tween, a: Changed) -> usize {
+// came is the row of the tween that the call was given.
+fn changed(came: Row, a: Changed) -> Row {
     match a {
-        Changed::Done(t) => {
-            let n = put(out, 0, 0);
-            put_tween(out, n, t)
-        }
-        Changed::Refused { tween, refusal } => put_refused(
-            out,
-            refusal.number(),
-            is_same_tween(tween, came),
-        ),
+        Changed::Done(tween) => put_tween(accepted(), tween),
+        Changed::Refused { tween, refusal } => kept(refused(refusal), tween_row(tween), came),
     }
 }
 
-fn put_updated(out: &mut [u32], came: Tween, a: Updated) -> usize {
+fn updated(came: Row, a: Updated) -> Row {
     match a {
         Updated::Ran {
             tween,
             folds,
             running,
-        } => {
-            let mut n = put(out, 0, 0);
-            n = put(out, n, folds);
-            n = put(out, n, flag_word(running));
-            put_tween(out, n, tween)
-        }
-        Updated::Refused { tween, refusal } => put_refused(
-            out,
-            refusal.number(),
-            is_same_tween(tween, came),
-        ),
+        } => put_tween(put(put(accepted(), folds), flag_word(running)), tween),
+        Updated::Refused { tween, refusal } => kept(refused(refusal), tween_row(tween), came),
     }
 }
 
@@ -88,20 +77,19 @@ fn outcome_number(outcome: Outcome) -> u32 {
     }
 }
 
-// Where no step was taken a 1 stands for the tween that came.
-fn put_run(out: &mut [u32], came: Tween, a: Run) -> usize {
+// Where no step was taken the tween is kept.
+fn put_run(came: Row, a: Run) -> Row {
     let outcome = a.outcome;
     let tween = a.tween;
-    let mut n = put(out, 0, outcome_number(outcome));
-    n = put(out, n, count_word(a.done));
+    let head = put(put(nothing(), outcome_number(outcome)), count_word(a.done));
     if a.done == 0 {
-        return put(out, n, flag_word(is_same_tween(tween, came)));
+        return kept(head, tween_row(tween), came);
     }
-    put_tween(out, n, tween)
+    put_tween(head, tween)
 }
 
 // The steps stand behind the lengths of the three lists.
-fn run(t: Tween, words: &[u32], out: &mut [u32]) -> usize {
+fn run(t: Tween, words: [u32; 1024]) -> Row {
     let length = length_at(words, 0);
     let values_length = length_at(words, 1);
     let folds_length = length_at(words, 2);
@@ -114,17 +102,17 @@ fn run(t: Tween, words: &[u32], out: &mut [u32]) -> usize {
         &mut values[..values_length],
         &mut folds[..folds_length],
     );
-    let mut n = put_run(out, t, a);
-    n = put_floats(out, n, &values, values_length);
-    put_words(out, n, &folds, folds_length)
+    let p = put_floats(put_run(tween_row(t), a), values, values_length);
+    put_words(p, folds, folds_length)
 }
 
-fn read(call: u32, t: Tween) -> Said {
+fn read(call: u32, t: Tween) -> Row {
     match call {
-        18 => said_value(t.value()),
-        19 => said_progress(t.progress()),
-        20 => said_value(t.eased_progress()),
-        _ => said_seconds(t.playback_duration()),
+        18 => value_row(t.value()),
+        19 => progress_row(t.progress()),
+        20 => value_row(t.eased_progress()),
+        21 => snapped(t.snapshot()),
+        _ => seconds_row(t.playback_duration()),
     }
 }
 
@@ -138,33 +126,21 @@ fn change(call: u32, t: Tween, x: f32) -> Changed {
     }
 }
 
-fn known(call: u32, t: Tween, words: &[u32], out: &mut [u32]) -> usize {
+fn known(call: u32, t: Tween, words: [u32; 1024]) -> Row {
     match call {
-        21 => put_snapshot(out, t.snapshot()),
-        23..=27 => put_changed(out, t, change(call, t, float_at(words, 0))),
-        28 => put_updated(out, t, t.update(float_at(words, 0))),
-        29 => run(t, words, out),
-        _ => put_said(out, read(call, t)),
+        18 | 19 | 20 | 21 | 22 => read(call, t),
+        28 => updated(tween_row(t), t.update(float_at(words, 0))),
+        29 => run(t, words),
+        _ => changed(tween_row(t), change(call, t, float_at(words, 0))),
     }
 }
 
-// The answer goes into the front of out. Answers how many words it has.
-pub fn answer(call: u32, w: LaxTween, words: &[u32], out: &mut [u32]) -> usize {
+pub fn answer(call: u32, w: LaxTween, words: [u32; 1024]) -> Row {
     if call == 17 {
-        return put_tween(out, 0, Tween::new(float_at(words, 0), float_at(words, 1)));
+        return tween_row(Tween::new(float_at(words, 0), float_at(words, 1)));
     }
     match tween_of(w) {
-        TweenRead::Known(t) => known(call, t, words, out),
-        TweenRead::Unknown => put_unknown(out),
-    }
-}
-
-// How many words the arguments have.
-pub fn arguments(call: u32, words: &[u32]) -> usize {
-    match call {
-        17 => 2,
-        24 | 28 => 1,
-        29 => 3 + length_at(words, 0),
-        _ => 0,
+        TweenRead::Known(t) => known(call, t, words),
+        TweenRead::Unknown => unknown(),
     }
 }

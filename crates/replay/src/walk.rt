@@ -3,18 +3,26 @@ ghost use Prim.Native.Nat.{_<_};
 use crate::easings;
 use crate::given::track_in;
 use crate::given::tween_in;
+use crate::lists::length_at;
+use crate::read::Entry;
 use crate::read::next;
 use crate::tracks;
 use crate::tweens;
-use crate::word::is_rest;
+use crate::word::Row;
+use crate::word::is_answer;
+use crate::word::nothing;
 use crate::word::word;
 use words::LaxTrack;
 use words::LaxTween;
 
-// The records that were last given, and what was found so far. counts has a place for each call.
-pub struct Walk {
-    pub tween: LaxTween,
-    pub track: LaxTrack,
+// The records that were last given.
+struct Given {
+    tween: LaxTween,
+    track: LaxTrack,
+}
+
+// What was found so far. counts has a place for each call.
+pub struct Tally {
     pub counts: [u64; 48],
     pub cases: u64,
     pub differences: u64,
@@ -24,12 +32,17 @@ pub struct Walk {
     pub is_whole: bool,
 }
 
-fn begin() -> Walk {
-    let track = track_in(&[0u32; 1]);
+fn none_given() -> Given {
+    let row = nothing();
+    let words = row.list;
+    let tween = tween_in(words);
+    let track = track_in(words);
+    Given { tween, track }
+}
+
+fn begin() -> Tally {
     let counts = [0u64; 48];
-    Walk {
-        tween: tween_in(&[0u32; 1]),
-        track,
+    Tally {
         counts,
         cases: 0,
         differences: 0,
@@ -44,100 +57,123 @@ fn up(n: u64) -> u64 {
     std::num::wrapping_add_u64(n, 1)
 }
 
-fn stopped(walk: Walk, is_whole: bool) -> Walk {
-    let mut w = walk;
-    w.goes_on = false;
-    w.is_whole = is_whole;
-    w
+fn stopped(tally: Tally, is_whole: bool) -> Tally {
+    let mut t = tally;
+    t.goes_on = false;
+    t.is_whole = is_whole;
+    t
 }
 
-fn is_call(call: u32) -> bool {
+// In place of a count of words, for a number that is no call; no entry has so many.
+const NO_CALL: usize = 2000;
+
+// How many words the arguments have.
+fn arguments(call: u32, words: [u32; 1024]) -> usize {
     match call {
-        1..=4 | 17..=29 | 33..=47 => true,
-        _ => false,
+        18 | 19 | 20 | 21 | 22 | 23 | 25 | 26 | 27 | 33 | 38 | 41 | 42 | 43 | 44 | 45 | 46 => 0,
+        4 | 24 | 28 | 37 | 40 | 47 => 1,
+        17 | 34 | 36 => 2,
+        3 => 6,
+        1 => 7,
+        35 => 8,
+        2 => 12,
+        29 => 3 + length_at(words, 0),
+        39 => 2 + length_at(words, 0),
+        _ => NO_CALL,
     }
 }
 
-// Whether the library's answer is the one in the list.
-fn agrees(tween: LaxTween, track: LaxTrack, call: u32, words: &[u32]) -> bool {
-    let mut out = [0u32; 1024];
+fn answer(given: Given, call: u32, words: [u32; 1024]) -> Row {
     if call < 16 {
-        let n = easings::answer(call, words, &mut out);
-        return is_rest(words, easings::arguments(call), &out, n);
+        return easings::answer(call, words);
     }
     if call < 32 {
-        let n = tweens::answer(call, tween, words, &mut out);
-        return is_rest(words, tweens::arguments(call, words), &out, n);
+        return tweens::answer(call, given.tween, words);
     }
-    let n = tracks::answer(call, track, words, &mut out);
-    is_rest(words, tracks::arguments(call, words), &out, n)
+    tracks::answer(call, given.track, words)
 }
 
-fn compared(walk: Walk, call: u32, words: &[u32]) -> Walk {
-    let mut w = walk;
+// The case that was counted last differs.
+fn differing(tally: Tally) -> Tally {
+    let mut t = tally;
+    if t.differences == 0 {
+        t.first = t.cases;
+    }
+    t.differences = up(t.differences);
+    t
+}
+
+fn compared(tally: Tally, call: u32, is_same: bool) -> Tally
+    requires { ⌜ call < 48 ⌝ }
+{
+    let mut t = tally;
     let place = call as usize;
-    if 47 < place {
-        return stopped(w, false);
+    t.counts[place] = up(t.counts[place]);
+    t.cases = up(t.cases);
+    if is_same {
+        return t;
     }
-    w.counts[place] = up(w.counts[place]);
-    w.cases = up(w.cases);
-    let track = w.track;
-    if !agrees(w.tween, track, call, words) {
-        if w.differences == 0 {
-            w.first = w.cases;
-        }
-        w.differences = up(w.differences);
-    }
-    w
+    differing(t)
 }
 
-fn took(walk: Walk, call: u32, words: &[u32]) -> Walk {
-    let mut w = walk;
+// A call: its arguments, and behind them the answer that the library has to give.
+fn counted(tally: Tally, given: Given, call: u32, row: Row) -> Tally
+    requires { ⌜ call < 48 ⌝ }
+{
+    let words = row.list;
+    let from = arguments(call, words);
+    if from == NO_CALL {
+        return stopped(tally, false);
+    }
+    let agrees = is_answer(words, row.count, from, answer(given, call, words));
+    compared(tally, call, agrees)
+}
+
+fn took(tally: Tally, given: Given, entry: Entry) -> Tally {
+    if !entry.is_whole {
+        return stopped(tally, false);
+    }
+    let row = entry.words;
+    let call = entry.call;
+    if 47 < call {
+        return stopped(tally, false);
+    }
     match call {
         // the last entry says how many cases there are
-        0 => stopped(w, word(words, 0) as u64 == w.cases),
-        16 => {
-            w.tween = tween_in(words);
-            w
+        0 => {
+            let words = row.list;
+            stopped(tally, word(words, 0) as u64 == tally.cases)
         }
-        32 => {
-            w.track = track_in(words);
-            w
-        }
-        _ => {
-            if is_call(call) {
-                return compared(w, call, words);
-            }
-            stopped(w, false)
-        }
+        16 | 32 => tally,
+        _ => counted(tally, given, call, row),
     }
 }
 
-fn took_front(walk: Walk, call: u32, list: [u32; 1024], count: usize) -> Walk
-    requires { ⌜ count < 1024 ⌝ }
-{
-    took(walk, call, &list[..count])
-}
-
-fn step(walk: Walk, fd: i32) -> Walk {
-    let mut words = [0u32; 1024];
-    let entry = next(fd, &mut words);
-    if !entry.is_whole {
-        return stopped(walk, false);
+fn renewed(given: Given, call: u32, row: Row) -> Given {
+    let mut g = given;
+    let words = row.list;
+    if call == 16 {
+        g.tween = tween_in(words);
     }
-    took_front(walk, entry.call, words, entry.count)
+    if call == 32 {
+        g.track = track_in(words);
+    }
+    g
 }
 
 // The list ends in an entry of its own; the count of turns is more than it has.
-pub fn all(fd: i32) -> Walk {
-    let mut walk = begin();
+pub fn all(fd: i32) -> Tally {
+    let mut given = none_given();
+    let mut tally = begin();
     let mut turns: u32 = 1000000;
     while 0 < turns {
-        if !walk.goes_on {
-            return walk;
+        let entry = next(fd);
+        tally = took(tally, given, entry);
+        if !tally.goes_on {
+            return tally;
         }
-        walk = step(walk, fd);
+        given = renewed(given, entry.call, entry.words);
         turns -= 1;
     }
-    walk
+    tally
 }

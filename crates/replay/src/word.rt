@@ -6,10 +6,10 @@ ghost use lib.ListN.{getD};
 ghost use Rattle.replay.specs.Words.{wordOf, Rest};
 
 // The word at a place; 0 behind the last.
-pub fn word(words: &[u32], at: usize) -> u32
-    ensures { λ r. ⌜ r ≡ getD (now (words .entry)) at 0 ⌝ }
+pub fn word(words: [u32; 1024], at: usize) -> u32
+    ensures { λ r. ⌜ r ≡ getD words at 0 ⌝ }
 {
-    if at < words.len() { words[at] } else { 0 }
+    if at < 1024 { words[at] } else { 0 }
 }
 
 // The float of a pattern. Every NaN reads alike.
@@ -22,7 +22,7 @@ pub fn float_of(bits: u32) -> f32
     f32::from_bits(bits)
 }
 
-pub fn float_at(words: &[u32], at: usize) -> f32 {
+pub fn float_at(words: [u32; 1024], at: usize) -> f32 {
     float_of(word(words, at))
 }
 
@@ -39,18 +39,30 @@ pub fn float_word(x: f32) -> u32
     f32::to_bits(x)
 }
 
-// Puts a word behind the first n of out, and answers how many there are then. A word that finds no
-// room is left out.
-pub fn put(out: &mut [u32], n: usize, w: u32) -> usize {
-    if n < out.len() {
-        out[n] = w;
-        return n + 1;
-    }
-    n
+// Words one behind the other: the first count of the list. Behind them it is 0.
+pub struct Row {
+    pub list: [u32; 1024],
+    pub count: usize,
 }
 
-pub fn put_float(out: &mut [u32], n: usize, x: f32) -> usize {
-    put(out, n, float_word(x))
+pub fn nothing() -> Row {
+    let list = [0u32; 1024];
+    Row { list, count: 0 }
+}
+
+// One word more. A word that finds no room is left out.
+pub fn put(p: Row, w: u32) -> Row {
+    let mut q = p;
+    let n = q.count;
+    if n < 1024 {
+        q.list[n] = w;
+        q.count = n + 1;
+    }
+    q
+}
+
+pub fn put_float(p: Row, x: f32) -> Row {
+    put(p, float_word(x))
 }
 
 // Whether the words from a place on are the first n of out.
@@ -74,4 +86,19 @@ pub fn is_rest(words: &[u32], from: usize, out: &[u32], n: usize) -> bool
         i += 1;
     }
     true
+}
+
+// Whether the first count words, from a place on, are the answer.
+pub fn is_answer(words: [u32; 1024], count: usize, from: usize, answer: Row) -> bool {
+    if 1024 < count {
+        return false;
+    }
+    let out = answer.list;
+    is_rest(&words[..count], from, &out, answer.count)
+}
+
+pub fn is_same(p: Row, q: Row) -> bool {
+    let left = p.list;
+    let right = q.list;
+    is_rest(&left, 0, &right, 1024)
 }

@@ -7,10 +7,10 @@ use Rattle.replay.proofs.given.frames_at.Statement.{statement}
 use Rattle.replay.proofs.given.frames_at.Tie as tie
 
 abbrev Inv-loop : tie.InvT-loop
-Inv-loop words from frames₀ i₀ frames i = (i ≤ 64) × (length frames ≡ 64)
+Inv-loop words from count frames₀ i₀ frames i = (i ≤ count) × (length frames ≡ 64)
 
 abbrev μ-loop : tie.MeasureT-loop
-μ-loop words from frames₀ i₀ frames i = 64 - i
+μ-loop words from count frames₀ i₀ frames i = count - i
 
 pub frames-at-spec : {M : Type 1} → statement M
 frames-at-spec =

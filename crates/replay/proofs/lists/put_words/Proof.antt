@@ -1,16 +1,14 @@
 -- `put_words` is safe and ends: the measure is the words that are left. Assumes nothing.
 use Prim.Native.Nat.{_≤_, _-_}
-use mathlib.Core.Path.{_≡_}
 use borrow.Author.Needs.{needs}
-use lib.ListN.{length}
 use Rattle.replay.proofs.lists.put_words.Statement.{statement}
 use Rattle.replay.proofs.lists.put_words.Tie as tie
 
 abbrev Inv-loop : tie.InvT-loop
-Inv-loop out₀ from list count n₀ i₀ out n i = (i ≤ count) × (length out ≡ length out₀)
+Inv-loop count list p₀ i₀ p i = i ≤ count
 
 abbrev μ-loop : tie.MeasureT-loop
-μ-loop out₀ from list count n₀ i₀ out n i = count - i
+μ-loop count list p₀ i₀ p i = count - i
 
 pub put-words-spec : {M : Type 1} → statement M
 put-words-spec =
@@ -22,7 +20,6 @@ put-words-spec =
     (λ c. search needs)
     (λ c. search needs)
     (λ c κs. search needs)
-    (λ c. search needs)
     (λ c. search needs)
     (λ c. search needs)
     (λ c. search needs)

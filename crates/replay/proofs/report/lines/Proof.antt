@@ -6,10 +6,10 @@ use Rattle.replay.proofs.report.lines.Statement.{statement}
 use Rattle.replay.proofs.report.lines.Tie as tie
 
 abbrev Inv-loop : tie.InvT-loop
-Inv-loop subject names counts first place₀ at₀ place at = (at ≤ length names + 1) × (place ≤ 48 + at)
+Inv-loop names first counts place₀ at₀ place at = (at ≤ length names + 1) × (place ≤ 48 + at)
 
 abbrev μ-loop : tie.MeasureT-loop
-μ-loop subject names counts first place₀ at₀ place at = length names + 1 - at
+μ-loop names first counts place₀ at₀ place at = length names + 1 - at
 
 pub lines-spec : {M : Type 1} → statement M
 lines-spec =

@@ -4,10 +4,10 @@ use Rattle.replay.proofs.walk.all.Statement.{statement}
 use Rattle.replay.proofs.walk.all.Tie as tie
 
 abbrev Inv-loop : tie.InvT-loop
-Inv-loop fd walk₀ turns₀ walk turns = Unit {0}
+Inv-loop fd given₀ tally₀ turns₀ given tally turns = Unit {0}
 
 abbrev μ-loop : tie.MeasureT-loop
-μ-loop fd walk₀ turns₀ walk turns = turns
+μ-loop fd given₀ tally₀ turns₀ given tally turns = turns
 
 pub all-spec : {M : Type 1} → statement M
 all-spec =
@@ -16,7 +16,10 @@ all-spec =
     Inv-loop
     μ-loop
     (λ c κs. search needs)
+    (λ c κs. search needs)
     (λ c. search needs)
+    (λ c κs. search needs)
+    (λ c κs. search needs)
     (λ c. search needs)
     (λ c κs. search needs)
     (λ c. search needs)

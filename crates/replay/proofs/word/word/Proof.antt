@@ -1,5 +1,6 @@
 -- `word` meets its contract. Assumes nothing.
 use mathlib.Core.Path.{sym}
+use native.Mathlib.Omega.{arith}
 use borrow.Author.Needs.{needs}
 use lib.ListN.{List·getD-eq-default}
 use Rattle.replay.proofs.word.word.Statement.{statement}
@@ -12,4 +13,4 @@ word-spec =
     (λ c. search needs)
     (λ c. search needs)
     (λ c. search needs)
-    (λ c. sym (List·getD-eq-default (c .before .args .words .now) 0 (c .if1 .left))))
+    (λ c. sym (List·getD-eq-default (c .before .args .t1) 0 (omega (arith, c .if1 .left, c .before .good .0)))))

@@ -1,17 +1,17 @@
--- `fill` is safe and ends: the measure is the words that are left. Assumes nothing.
+-- `row_of` is safe and ends: the measure is the words that are left. Assumes nothing.
 use Prim.Native.Nat.{_≤_, _-_}
 use borrow.Author.Needs.{needs}
-use Rattle.replay.proofs.read.fill.Statement.{statement}
-use Rattle.replay.proofs.read.fill.Tie as tie
+use Rattle.replay.proofs.read.row_of.Statement.{statement}
+use Rattle.replay.proofs.read.row_of.Tie as tie
 
 abbrev Inv-loop : tie.InvT-loop
-Inv-loop words₀ bytes count i₀ words i = i ≤ count
+Inv-loop count bytes list₀ i₀ list i = i ≤ count
 
 abbrev μ-loop : tie.MeasureT-loop
-μ-loop words₀ bytes count i₀ words i = count - i
+μ-loop count bytes list₀ i₀ list i = count - i
 
-pub fill-spec : {M : Type 1} → statement M
-fill-spec =
+pub row-of-spec : {M : Type 1} → statement M
+row-of-spec =
     tie.close
     (tie.spec
     Inv-loop
