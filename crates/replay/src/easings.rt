@@ -1,15 +1,15 @@
 // The calls of an easing.
-use crate::answers::accepted;
-use crate::answers::equality_row;
-use crate::answers::flag_row;
-use crate::answers::unknown;
-use crate::answers::value_row;
-use crate::given::easing_at;
-use crate::handed::put_easing;
-use crate::word::Row;
-use crate::word::float_at;
-use crate::word::word;
 use easing::Easing;
+use rows::Row;
+use rows::accepted;
+use rows::easing_at;
+use rows::equality_row;
+use rows::flag_row;
+use rows::float_at;
+use rows::put_easing;
+use rows::unknown;
+use rows::value_row;
+use rows::word;
 use units::Progress;
 use words::EasingRead;
 use words::LaxEasing;

@@ -1,16 +1,11 @@
 // The fixed list of the Rust's answers, asked of the library with no Rust at hand: how many of each
 // call were compared, and how many differ.
-mod answers;
 mod easings;
-mod given;
-mod handed;
-mod lists;
 mod read;
 mod report;
 mod tracks;
 mod tweens;
 mod walk;
-mod word;
 
 fn main() {
     let mut path = io::buffer();

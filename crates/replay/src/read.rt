@@ -1,8 +1,8 @@
 // Entries of the list: a word that has what the entry is and, times 256, how many words follow; then
 // these. A word has its low byte first.
 ghost use Prim.Native.Nat.{_≤_, _<_};
-use crate::word::Row;
-use crate::word::nothing;
+use rows::Row;
+use rows::nothing;
 
 pub struct Entry {
     pub is_whole: bool,

@@ -1,17 +1,17 @@
 // The list, gone through entry by entry.
 ghost use Prim.Native.Nat.{_<_};
 use crate::easings;
-use crate::given::track_in;
-use crate::given::tween_in;
-use crate::lists::length_at;
 use crate::read::Entry;
 use crate::read::next;
 use crate::tracks;
 use crate::tweens;
-use crate::word::Row;
-use crate::word::is_answer;
-use crate::word::nothing;
-use crate::word::word;
+use rows::Row;
+use rows::is_answer;
+use rows::length_at;
+use rows::nothing;
+use rows::track_in;
+use rows::tween_in;
+use rows::word;
 use words::LaxTrack;
 use words::LaxTween;
 

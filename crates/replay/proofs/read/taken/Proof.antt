@@ -1,6 +1,6 @@
 -- `taken` is safe and ends: the part is within the buffer. Assumes nothing.
 use native.Mathlib.Omega.{arith}
-use Rattle.replay.proofs.Fronts.{front}
+use Rattle.rows.proofs.Fronts.{front}
 use borrow.Author.Needs.{needs}
 use Rattle.replay.proofs.read.taken.Statement.{statement}
 use Rattle.replay.proofs.read.taken.Tie as tie

@@ -1,6 +1,6 @@
 -- `run` is safe and ends: the parts that are lent are within their lists. Assumes nothing.
 use native.Mathlib.Omega.{arith}
-use Rattle.replay.proofs.Fronts.{front}
+use Rattle.rows.proofs.Fronts.{front}
 use borrow.Author.Needs.{needs}
 use Rattle.replay.proofs.tweens.run.Statement.{statement}
 use Rattle.replay.proofs.tweens.run.Tie as tie

@@ -1,0 +1,88 @@
+// Records that the library hands back, as words of the list.
+ghost use Prim.Native.Nat.{_≤_};
+use crate::entries::Row;
+use crate::entries::nothing;
+use crate::entries::put;
+use crate::entries::put_float;
+use keyframe::Track;
+use tween::Tween;
+use words::LaxEasing;
+use words::LaxKeyframe;
+use words::LaxTrack;
+use words::LaxTween;
+use words::track_words;
+use words::tween_words;
+
+pub fn put_easing(before: Row, e: LaxEasing) -> Row {
+    let mut p = put(before, e.kind);
+    p = put_float(p, e.a);
+    p = put_float(p, e.b);
+    p = put_float(p, e.c);
+    p = put_float(p, e.d);
+    put(p, e.count)
+}
+
+// What stays while a tween runs.
+fn put_settings(before: Row, w: LaxTween) -> Row {
+    let mut p = put_float(before, w.start);
+    p = put_float(p, w.end);
+    p = put_float(p, w.duration);
+    p = put_easing(p, w.easing);
+    p = put_float(p, w.delay);
+    p = put_float(p, w.time_scale);
+    p = put(p, w.looping.mode);
+    put(p, w.looping.passes)
+}
+
+pub fn put_tween(before: Row, t: Tween) -> Row {
+    let w = tween_words(t);
+    let mut p = put_settings(before, w);
+    p = put_float(p, w.elapsed);
+    p = put_float(p, w.delay_elapsed);
+    p = put(p, w.state);
+    p = put(p, w.loop_count);
+    put(p, w.ping_pong_reverse)
+}
+
+pub fn tween_row(t: Tween) -> Row {
+    put_tween(nothing(), t)
+}
+
+fn put_frame(before: Row, k: LaxKeyframe) -> Row {
+    let mut p = put_float(before, k.time);
+    p = put_float(p, k.value);
+    put_easing(p, k.easing)
+}
+
+// How many of the 64 places are frames.
+pub fn places(count: u32) -> usize
+    ensures { λ r. ⌜ r ≤ 64 ⌝ }
+{
+    if count < 64 { count as usize } else { 64 }
+}
+
+fn put_frames(before: Row, frames: [LaxKeyframe; 64], count: usize) -> Row
+    requires { ⌜ count ≤ 64 ⌝ }
+{
+    let mut p = before;
+    let mut i: usize = 0;
+    while i < count {
+        p = put_frame(p, frames[i]);
+        i += 1;
+    }
+    p
+}
+
+// Its head, then its frames. came is the track that the call was given.
+pub fn put_track(before: Row, came: LaxTrack, t: Track) -> Row {
+    let behind = came.frames;
+    let w = track_words(behind, t);
+    let mut p = put(before, w.count);
+    p = put_float(p, w.elapsed);
+    p = put(p, w.looping.mode);
+    p = put(p, w.looping.passes);
+    p = put(p, w.loop_count);
+    p = put(p, w.complete);
+    let frames = w.frames;
+    put_frames(p, frames, places(w.count))
+}
