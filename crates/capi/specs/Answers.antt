@@ -31,10 +31,6 @@ use Rattle.capi.specs.declared.answers.LaxChanged.{LaxChanged}
 use Rattle.capi.specs.declared.answers.LaxUpdated.{LaxUpdated}
 use Rattle.capi.specs.declared.answers.LaxRun.{LaxRun}
 
--- the number where a word is no kind, no mode or no state
-abbrev pub unknownWord : ℕ
-unknownWord = 100
-
 abbrev pub noValue : ℕ → LaxValue
 noValue n = record { number = n; value = zeroF }
 

@@ -9,11 +9,11 @@ use Rattle.easing.specs.Apply.{applyOf, eqOf}
 use Rattle.words.specs.declared.kinds.LaxEasing.{LaxEasing}
 use Rattle.words.specs.declared.kinds.EasingRead.{EasingRead}
 use Rattle.words.specs.declared.kinds.EasingRead.the-variants.{Known, Unknown}
-use Rattle.words.specs.Kinds.{isKind, easingFrom, easingWords}
+use Rattle.words.specs.Kinds.{unknownWord, isKind, easingFrom, easingWords}
 use Rattle.capi.specs.declared.answers.LaxValue.{LaxValue}
 use Rattle.capi.specs.declared.answers.LaxFlag.{LaxFlag}
 use Rattle.capi.specs.declared.answers.LaxEasingAnswer.{LaxEasingAnswer}
-use Rattle.capi.specs.Answers.{unknownWord, noValue, valueWords, noFlag, flagWords, equalityWords}
+use Rattle.capi.specs.Answers.{noValue, valueWords, noFlag, flagWords, equalityWords}
 
 abbrev pub applied : EasingRead → Float → LaxValue
 applied (Known e) t = valueWords (applyOf e t)

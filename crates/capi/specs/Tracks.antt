@@ -17,7 +17,7 @@ use Rattle.words.specs.declared.modes.LaxLoop.{LaxLoop}
 use Rattle.words.specs.declared.modes.LoopRead.{LoopRead}
 use Rattle.words.specs.declared.modes.LoopRead.the-variants as mode
 use Rattle.words.specs.declared.tracks.LaxTrack.{LaxTrack}
-use Rattle.words.specs.Kinds.{easingFrom}
+use Rattle.words.specs.Kinds.{unknownWord, easingFrom}
 use Rattle.words.specs.Modes.{loopFrom}
 use Rattle.words.specs.Tracks.{knownTrack, trackFrom, frameWords, trackWords}
 use Rattle.capi.specs.declared.answers.LaxValue.{LaxValue}
@@ -25,7 +25,7 @@ use Rattle.capi.specs.declared.answers.LaxFlag.{LaxFlag}
 use Rattle.capi.specs.declared.track_answers.LaxTrackChanged.{LaxTrackChanged}
 use Rattle.capi.specs.declared.track_answers.LaxTrackUpdated.{LaxTrackUpdated}
 use Rattle.capi.specs.declared.track_answers.LaxFilled.{LaxFilled}
-use Rattle.capi.specs.Answers.{unknownWord, noValue, valueWords, secondsWords, progressWords, noFlag}
+use Rattle.capi.specs.Answers.{noValue, valueWords, secondsWords, progressWords, noFlag}
 use Rattle.capi.specs.TrackAnswers.{untouched, trackChangedWords, notStepped, trackUpdatedWords, completionWords}
 
 -- the answer for a track that was read, or the one for words that are none

@@ -9,13 +9,14 @@ use Rattle.steps.specs.Course.{runOf, answerOf, over}
 use Rattle.words.specs.declared.tweens.LaxTween.{LaxTween}
 use Rattle.words.specs.declared.tweens.TweenRead.{TweenRead}
 use Rattle.words.specs.declared.tweens.TweenRead.the-variants.{Known, Unknown}
+use Rattle.words.specs.Kinds.{unknownWord}
 use Rattle.words.specs.Tweens.{tweenFrom}
 use Rattle.capi.specs.declared.answers.LaxValue.{LaxValue}
 use Rattle.capi.specs.declared.answers.LaxSnapshot.{LaxSnapshot}
 use Rattle.capi.specs.declared.answers.LaxChanged.{LaxChanged}
 use Rattle.capi.specs.declared.answers.LaxUpdated.{LaxUpdated}
 use Rattle.capi.specs.declared.answers.LaxRun.{LaxRun}
-use Rattle.capi.specs.Answers.{unknownWord, noValue, valueWords, secondsWords, progressWords, noSnapshot, snapshotWords, unchanged, changedWords, notUpdated, updatedWords, runWords}
+use Rattle.capi.specs.Answers.{noValue, valueWords, secondsWords, progressWords, noSnapshot, snapshotWords, unchanged, changedWords, notUpdated, updatedWords, runWords}
 
 -- the answer for a tween that was read, or the one for words that are none
 abbrev pub onTween : {A : Type 0} → TweenRead → (Tween → A) → A → A

@@ -17,9 +17,6 @@ use words::flag_word;
 use words::state_word;
 use words::tween_words;
 
-// The number where a word is no kind, no mode or no state.
-pub const UNKNOWN_WORD: u32 = 100;
-
 #[repr(C)]
 pub struct LaxValue {
     pub number: u32,

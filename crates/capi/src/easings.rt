@@ -4,7 +4,6 @@ ghost use Rattle.capi.specs.Easings.{laxEasingApply, laxEasingEq, laxEas
 use crate::answers::LaxEasingAnswer;
 use crate::answers::LaxFlag;
 use crate::answers::LaxValue;
-use crate::answers::UNKNOWN_WORD;
 use crate::answers::equality_words;
 use crate::answers::flag_words;
 use crate::answers::no_flag;
@@ -14,6 +13,7 @@ use easing::Easing;
 use units::Progress;
 use words::EasingRead;
 use words::LaxEasing;
+use words::UNKNOWN_WORD;
 use words::easing_of;
 use words::easing_words;
 

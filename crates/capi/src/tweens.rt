@@ -8,7 +8,6 @@ use crate::answers::LaxRun;
 use crate::answers::LaxSnapshot;
 use crate::answers::LaxUpdated;
 use crate::answers::LaxValue;
-use crate::answers::UNKNOWN_WORD;
 use crate::answers::changed_words;
 use crate::answers::no_snapshot;
 use crate::answers::no_value;
@@ -25,6 +24,7 @@ use tween::Tween;
 use units::Progress;
 use words::LaxTween;
 use words::TweenRead;
+use words::UNKNOWN_WORD;
 use words::tween_of;
 use words::tween_words;
 

@@ -20,9 +20,12 @@ limitOf Forever = Endless
 limitOf PingPong = Endless
 
 -- "Pass numbers of Times and PingPongTimes are at most 65,535"
+abbrev pub mostPasses : ℕ
+mostPasses = 65535
+
 unfoldable pub withinOf : Loop → Bool
 withinOf Once = true
-withinOf (Times n) = leb n 65535
-withinOf (PingPongTimes n) = leb n 65535
+withinOf (Times n) = leb n mostPasses
+withinOf (PingPongTimes n) = leb n mostPasses
 withinOf Forever = true
 withinOf PingPong = true

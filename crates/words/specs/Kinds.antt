@@ -15,6 +15,10 @@ use Rattle.words.specs.declared.kinds.EasingRead.the-variants.{Known, Un
 abbrev pub words : ℕ → Float → Float → Float → Float → ℕ → LaxEasing
 words k a b c d n = record { kind = k; a = a; b = b; c = c; d = d; count = n }
 
+-- the number of a call whose words are no kind, no mode or no state
+abbrev pub unknownWord : ℕ
+unknownWord = 100
+
 -- one of the 38
 abbrev pub isKind : ℕ → Bool
 isKind k = ltb k 38

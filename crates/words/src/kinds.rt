@@ -17,6 +17,9 @@ pub struct LaxEasing {
     pub count: u32,
 }
 
+// The number of a call whose words are no kind, no mode or no state.
+pub const UNKNOWN_WORD: u32 = 100;
+
 pub enum EasingRead {
     Known(Easing),
     Unknown,

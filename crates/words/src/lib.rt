@@ -7,6 +7,7 @@ mod tweens;
 
 pub use kinds::EasingRead;
 pub use kinds::LaxEasing;
+pub use kinds::UNKNOWN_WORD;
 pub use kinds::easing_of;
 pub use kinds::easing_words;
 pub use modes::LaxLoop;
