@@ -23,3 +23,7 @@ module _ (words out : List ℕ) (from n : ℕ) (count : length words ≡ from + 
   all-same t =
       let k : length (drop from words) ≡ n = rw length-drop (omega arith) in
       record { count = count; same = sym (take-all n (drop from words) (omega arith)) ∙ t }
+
+-- all of a list of n words
+pub whole : (words out : List ℕ) (n : ℕ) → length out ≡ n → Rest words 0 out n → words ≡ out
+whole words out n l r = r .same ∙ take-all n out (omega (arith, l))

@@ -1,15 +1,36 @@
--- A float as a word of the list, and what it means that two lists of words agree.
+-- Words one behind the other, a float as one of them, and what it means that two lists of words agree.
 use mathlib.Core.Bool.{cond}
-use mathlib.Core.List.{List}
+use mathlib.Core.List.{List, [], _∷_}
 use mathlib.Core.Path.{_≡_}
 use Prim.Native.Nat.{ℕ, _+_}
-use lib.Ieee.{Float, binary32, eq, toBits}
-use lib.ListN.{length, take, drop}
+use lib.Dec.{ltb}
+use lib.Ieee.{Float, binary32, eq, ofBits, toBits}
+use lib.ListN.{length, take, drop, getD, set, replicate}
 use Rattle.math.specs.Rounded.{zeroF}
+use Rattle.rows.specs.declared.entries.Row.{Row}
+
+-- the word at a place; 0 behind the last
+abbrev pub wordAt : List ℕ → ℕ → ℕ
+wordAt words at = getD words at 0
+
+abbrev pub floatAt : List ℕ → ℕ → Float
+floatAt words at = ofBits binary32 (wordAt words at)
 
 -- its pattern; a zero of either sign is 0, and every NaN has the pattern 0x7fc00000
 unfoldable pub wordOf : Float → ℕ
 wordOf x = cond (eq x zeroF) 0 (toBits binary32 x)
+
+abbrev pub emptyRow : Row
+emptyRow = record { list = replicate 1024 0; count = 0 }
+
+-- one word more; a word that finds no room is left out
+unfoldable pub putOf : Row → ℕ → Row
+putOf p w = cond (ltb (p .count) 1024) (record { list = set (p .list) (p .count) w; count = p .count + 1 }) p
+
+-- the words of a list, one behind the other
+unfoldable pub putAll : Row → List ℕ → Row
+putAll p [] = p
+putAll p (w ∷ ws) = putAll (putOf p w) ws
 
 -- from a place on there are n words, the first n of the other list
 pub record Rest (words : List ℕ) (from : ℕ) (out : List ℕ) (n : ℕ) : Type 0 where

@@ -1,0 +1,14 @@
+-- `is_same` meets its contract, by what `is_rest` ensures. Assumes nothing.
+use Rattle.rows.proofs.Fronts.{whole}
+use borrow.Author.Needs.{needs}
+use Rattle.rows.proofs.entries.is_same.Statement.{statement}
+use Rattle.rows.proofs.entries.is_same.Tie as tie
+
+pub is-same-spec : {M : Type 1} → statement M
+is-same-spec =
+    tie.close
+    (tie.spec
+    (λ c. search needs)
+    (λ c. search needs)
+    (λ c κs. search needs)
+    (λ c h. whole _ _ 1024 (search needs) (c .is-rest .ensures h)))
