@@ -32,6 +32,10 @@ unfoldable pub putAll : Row → List ℕ → Row
 putAll p [] = p
 putAll p (w ∷ ws) = putAll (putOf p w) ws
 
+-- a row of these words alone
+abbrev pub rowOf : List ℕ → Row
+rowOf ws = putAll emptyRow ws
+
 -- from a place on there are n words, the first n of the other list
 pub record Rest (words : List ℕ) (from : ℕ) (out : List ℕ) (n : ℕ) : Type 0 where
   pub count : length words ≡ from + n
