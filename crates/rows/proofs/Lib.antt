@@ -1,3 +1,4 @@
 -- Laws that the functions' proofs cite.
+pub mod Filled
 pub mod Fronts
 pub mod Floats

@@ -1,8 +1,8 @@
 -- Words one behind the other, a float as one of them, and what it means that two lists of words agree.
 use mathlib.Core.Bool.{cond}
-use mathlib.Core.List.{List, [], _∷_}
+use mathlib.Core.List.{List, [], _∷_, _++_}
 use mathlib.Core.Path.{_≡_}
-use Prim.Native.Nat.{ℕ, _+_}
+use Prim.Native.Nat.{ℕ, zero, suc, _+_}
 use lib.Dec.{ltb}
 use lib.Ieee.{Float, binary32, eq, ofBits, toBits}
 use lib.ListN.{length, take, drop, getD, set, replicate}
@@ -15,6 +15,11 @@ wordAt words at = getD words at 0
 
 abbrev pub floatAt : List ℕ → ℕ → Float
 floatAt words at = ofBits binary32 (wordAt words at)
+
+-- the first n of a sequence
+unfoldable pub firsts : {A : Type 0} → (ℕ → A) → ℕ → List A
+firsts f zero = []
+firsts f (suc n) = firsts f n ++ (f n ∷ [])
 
 -- its pattern; a zero of either sign is 0, and every NaN has the pattern 0x7fc00000
 unfoldable pub wordOf : Float → ℕ

@@ -1,5 +1,7 @@
 // Records that the library hands back, as words of the list.
+ghost use mathlib.Core.Path.{_≡_};
 ghost use Prim.Native.Nat.{_≤_};
+ghost use Rattle.words.specs.Tracks.{placesIn};
 use crate::entries::Row;
 use crate::entries::nothing;
 use crate::entries::put;
@@ -56,7 +58,7 @@ fn put_frame(before: Row, k: LaxKeyframe) -> Row {
 
 // How many of the 64 places are frames.
 pub fn places(count: u32) -> usize
-    ensures { λ r. ⌜ r ≤ 64 ⌝ }
+    ensures { λ r. ⌜ (r ≤ 64) × (r ≡ placesIn count) ⌝ }
 {
     if count < 64 { count as usize } else { 64 }
 }
