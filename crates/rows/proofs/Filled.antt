@@ -17,3 +17,7 @@ module _ {A : Type 0} (f : ℕ → A) where
   pub fill-one : (out : List A) (i : ℕ) → i < length out → set (firsts f i ++ drop i out) i (f i) ≡ firsts f (i + 1) ++ drop (i + 1) out
   unfolding firsts
   fill-one out i h = rw (add-one, append-assoc, drop-cons out i (f i) h) (set-at (firsts f i) (getD out i (f i)) (drop (suc i) out) (f i) i (length-firsts i))
+
+  pub fill-none : (out : List A) → out ≡ firsts f 0 ++ drop 0 out
+  unfolding firsts
+  fill-none out = refl

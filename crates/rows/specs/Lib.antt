@@ -2,3 +2,5 @@
 pub mod Words
 pub mod Answers
 pub mod Records
+pub mod Written
+pub mod Lent
