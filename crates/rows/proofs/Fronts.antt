@@ -1,12 +1,13 @@
 -- Two lists that agree at their fronts. Assumes nothing.
-use mathlib.Core.Path.{_≡_, refl, sym, _∙_}
+use mathlib.Core.Bool.{Bool, true, false, false≢true}
+use mathlib.Core.Path.{_≡_, refl, sym, ap, _∙_}
 use mathlib.Core.List.{List}
 use Prim.Native.Nat.{ℕ, _+_, _<_, _≤_}
 use native.Mathlib.Numerals.{add-one}
 use native.Mathlib.Omega.{arith}
 use lib.ListN.{length, take, drop, getD, length-drop}
-use lib.Seq.{take-suc, getD-drop, take-all, length-take-le}
-use Rattle.rows.specs.Words.{Rest}
+use lib.Seq.{take-suc, getD-drop, getD-take, take-all, length-take-le}
+use Rattle.rows.specs.Words.{Rest, Tells}
 
 -- what a part from the front has for its length
 pub front {ℓ} : {A : Type ℓ} (n : ℕ) (l : List A) → n ≤ length l → n ≡ length (take n l)
@@ -24,6 +25,31 @@ module _ (words out : List ℕ) (from n : ℕ) (count : length words ≡ from + 
       let k : length (drop from words) ≡ n = rw length-drop (omega arith) in
       record { count = count; same = sym (take-all n (drop from words) (omega arith)) ∙ t }
 
+module _ {words out : List ℕ} {from n : ℕ} (r : Rest words from out n) where
+  pub no-room : length out < n → ⊥
+  no-room h =
+      let e : length (drop from words) ≡ length out = ap length (r .same ∙ take-all n out (omega arith)) in
+      omega (arith, e, length-drop from words, r .count, h)
+
+  pub same-word : (i : ℕ) → i < n → getD words (from + i) 0 ≡ getD out i 0
+  same-word i h = sym (getD-drop from words i 0) ∙ (ap (λ (l : List ℕ). getD l i 0) (r .same) ∙ getD-take n out i 0 h)
+
 -- all of a list of n words
-pub whole : (words out : List ℕ) (n : ℕ) → length out ≡ n → Rest words 0 out n → words ≡ out
-whole words out n l r = r .same ∙ take-all n out (omega (arith, l))
+module _ (words out : List ℕ) (n : ℕ) (count : length words ≡ n) (room : length out ≡ n) where
+  pub whole : Rest words 0 out n → words ≡ out
+  whole r = r .same ∙ take-all n out (omega (arith, room))
+
+  pub of-whole : words ≡ out → Rest words 0 out n
+  of-whole e = record { count = omega (arith, count); same = e ∙ sym (take-all n out (omega (arith, room))) }
+
+-- what a test tells
+module _ {P : Type 0} where
+  pub yes : P → Tells true P
+  yes p = (λ h. p, λ q. refl)
+
+  pub no : (P → ⊥) → Tells false P
+  no f = (λ h. absurd (false≢true h), λ p. absurd (f p))
+
+  pub denied : (b : Bool) → Tells b P → (P → ⊥) → b ≡ false
+  denied true t f = absurd (f (t .0 refl))
+  denied false t f = refl

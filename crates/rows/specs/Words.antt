@@ -1,5 +1,5 @@
 -- Words one behind the other, a float as one of them, and what it means that two lists of words agree.
-use mathlib.Core.Bool.{cond}
+use mathlib.Core.Bool.{Bool, true, cond}
 use mathlib.Core.List.{List, [], _∷_, _++_}
 use mathlib.Core.Path.{_≡_}
 use Prim.Native.Nat.{ℕ, zero, suc, _+_}
@@ -45,3 +45,7 @@ rowOf ws = putAll emptyRow ws
 pub record Rest (words : List ℕ) (from : ℕ) (out : List ℕ) (n : ℕ) : Type 0 where
   pub count : length words ≡ from + n
   pub same : drop from words ≡ take n out
+
+-- true where it is so, and there alone
+abbrev pub Tells : Bool → Type 0 → Type 0
+Tells b P = (b ≡ true → P) × (P → b ≡ true)

@@ -1,6 +1,6 @@
 // The library's answers as words of the list. A refused call answers its number.
 ghost use mathlib.Core.Path.{_≡_};
-ghost use Rattle.rows.specs.Words.{rowOf};
+ghost use Rattle.rows.specs.Words.{putOf, rowOf};
 ghost use Rattle.rows.specs.Answers.{unknownWords, refusedWords, acceptedWords, flagWords, floatWords, valueWords, secondsWords, progressWords, equalityWords, completionWords};
 use crate::entries::Row;
 use crate::entries::float_word;
@@ -37,7 +37,9 @@ pub fn accepted() -> Row
 }
 
 // Behind the head a 1 where the record that is handed back is the one that came.
-pub fn kept(head: Row, back: Row, came: Row) -> Row {
+pub fn kept(head: Row, back: Row, came: Row) -> Row
+    ensures { λ r. ⌜ (back .list ≡ came .list → r ≡ putOf head 1) × ((back .list ≡ came .list → ⊥) → r ≡ putOf head 0) ⌝ }
+{
     put(head, flag_word(is_same(back, came)))
 }
 

@@ -1,10 +1,9 @@
 // Words of the list, and the floats in them.
-ghost use mathlib.Core.Bool.{true};
 ghost use mathlib.Core.Path.{_≡_};
 ghost use Prim.Native.Nat.{_≤_};
 ghost use lib.Ieee.{binary32, ofBits};
 ghost use lib.ListN.{take};
-ghost use Rattle.rows.specs.Words.{wordAt, floatAt, wordOf, emptyRow, putOf, Rest};
+ghost use Rattle.rows.specs.Words.{wordAt, floatAt, wordOf, emptyRow, putOf, Rest, Tells};
 
 // The word at a place; 0 behind the last.
 pub fn word(words: [u32; 1024], at: usize) -> u32
@@ -76,7 +75,7 @@ pub fn put_float(p: Row, x: f32) -> Row
 
 // Whether the words from a place on are the first n of out.
 pub fn is_rest(words: &[u32], from: usize, out: &[u32], n: usize) -> bool
-    ensures { λ r. ⌜ (r ≡ true → Rest (now (words .entry)) from (now (out .entry)) n) ⌝ }
+    ensures { λ r. ⌜ Tells r (Rest (now (words .entry)) from (now (out .entry)) n) ⌝ }
 {
     if words.len() < from {
         return false;
@@ -99,7 +98,7 @@ pub fn is_rest(words: &[u32], from: usize, out: &[u32], n: usize) -> bool
 
 // Whether the first count words, from a place on, are the answer.
 pub fn is_answer(words: [u32; 1024], count: usize, from: usize, answer: Row) -> bool
-    ensures { λ r. ⌜ (r ≡ true → (count ≤ 1024) × Rest (take count words) from (answer .list) (answer .count)) ⌝ }
+    ensures { λ r. ⌜ Tells r ((count ≤ 1024) × Rest (take count words) from (answer .list) (answer .count)) ⌝ }
 {
     if 1024 < count {
         return false;
@@ -109,7 +108,7 @@ pub fn is_answer(words: [u32; 1024], count: usize, from: usize, answer: Row) -> 
 }
 
 pub fn is_same(p: Row, q: Row) -> bool
-    ensures { λ r. ⌜ (r ≡ true → p .list ≡ q .list) ⌝ }
+    ensures { λ r. ⌜ Tells r (p .list ≡ q .list) ⌝ }
 {
     let left = p.list;
     let right = q.list;

@@ -1,5 +1,5 @@
 -- `is_same` meets its contract, by what `is_rest` ensures. Assumes nothing.
-use Rattle.rows.proofs.Fronts.{whole}
+use Rattle.rows.proofs.Fronts.{whole, of-whole}
 use borrow.Author.Needs.{needs}
 use Rattle.rows.proofs.entries.is_same.Statement.{statement}
 use Rattle.rows.proofs.entries.is_same.Tie as tie
@@ -11,4 +11,4 @@ is-same-spec =
     (λ c. search needs)
     (λ c. search needs)
     (λ c κs. search needs)
-    (λ c h. whole _ _ 1024 (search needs) (c .is-rest .ensures h)))
+    (λ c. (λ h. whole _ _ 1024 (search needs) (search needs) (c .is-rest .ensures .0 h), λ e. c .is-rest .ensures .1 (of-whole _ _ 1024 (search needs) (search needs) e))))
