@@ -6,7 +6,7 @@ use native.Mathlib.Omega.{arith}
 use lib.ListN.{length, drop, replicate, length-set}
 use Rattle.rows.specs.Words.{firsts}
 use Rattle.rows.specs.Records.{frameAt, framesAt}
-use Rattle.rows.proofs.Filled.{fill-one}
+use Rattle.rows.proofs.Filled.{fill-none, fill-one}
 use borrow.Author.Needs.{needs}
 use Rattle.rows.proofs.given.frames_at.Statement.{statement}
 use Rattle.rows.proofs.given.frames_at.Tie as tie
@@ -22,14 +22,14 @@ unfolding frameAt
 no-words = refl
 
 pub frames-at-spec : {M : Type 1} → statement M
-unfolding firsts framesAt
+unfolding framesAt
 frames-at-spec =
     tie.close
     (tie.spec
     Inv-loop
     μ-loop
     (λ c κs. search needs)
-    (λ c. (search needs, refl, refl))
+    (λ c. (search needs, refl, fill-none _ _))
     (λ c. search needs)
     (λ c. search needs)
     (λ c κs. search needs)
