@@ -9,7 +9,7 @@ use lib.Seq.{drop-cons, set-at}
 use Rattle.rows.specs.Words.{firsts}
 
 module _ {A : Type 0} (f : ℕ → A) where
-  pub length-firsts : (n : ℕ) → length (firsts f n) ≡ n
+  length-firsts : (n : ℕ) → length (firsts f n) ≡ n
   unfolding firsts
   length-firsts zero = refl
   length-firsts (suc n) = rw (length-append, length-firsts n) (omega arith)

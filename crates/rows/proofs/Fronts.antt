@@ -1,5 +1,4 @@
 -- Two lists that agree at their fronts. Assumes nothing.
-use mathlib.Core.Bool.{Bool, true, false, false≢true}
 use mathlib.Core.Path.{_≡_, refl, sym, ap, _∙_}
 use mathlib.Core.List.{List}
 use Prim.Native.Nat.{ℕ, _+_, _<_, _≤_}
@@ -7,7 +6,7 @@ use native.Mathlib.Numerals.{add-one}
 use native.Mathlib.Omega.{arith}
 use lib.ListN.{length, take, drop, getD, length-drop}
 use lib.Seq.{take-suc, getD-drop, getD-take, take-all, length-take-le}
-use Rattle.rows.specs.Words.{Rest, Tells}
+use Rattle.rows.specs.Words.{Rest}
 
 -- what a part from the front has for its length
 pub front {ℓ} : {A : Type ℓ} (n : ℕ) (l : List A) → n ≤ length l → n ≡ length (take n l)
@@ -41,15 +40,3 @@ module _ (words out : List ℕ) (n : ℕ) (count : length words ≡ n) (room : l
 
   pub of-whole : words ≡ out → Rest words 0 out n
   of-whole e = record { count = omega (arith, count); same = e ∙ sym (take-all n out (omega (arith, room))) }
-
--- what a test tells
-module _ {P : Type 0} where
-  pub yes : P → Tells true P
-  yes p = (λ h. p, λ q. refl)
-
-  pub no : (P → ⊥) → Tells false P
-  no f = (λ h. absurd (false≢true h), λ p. absurd (f p))
-
-  pub denied : (b : Bool) → Tells b P → (P → ⊥) → b ≡ false
-  denied true t f = absurd (f (t .0 refl))
-  denied false t f = refl

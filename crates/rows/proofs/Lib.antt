@@ -1,5 +1,6 @@
 -- Laws that the functions' proofs cite.
 pub mod Filled
-pub mod Written
-pub mod Fronts
 pub mod Floats
+pub mod Fronts
+pub mod Told
+pub mod Written

@@ -1,7 +1,7 @@
 -- Words written one list behind the other. Assumes nothing.
 use Prim.Native.Nat.{ℕ, _+_, _<_}
-use mathlib.Core.Path.{_≡_, refl, ap}
-use mathlib.Core.List.{List, [], _∷_, _++_, map, append-assoc}
+use mathlib.Core.Path.{_≡_, refl}
+use mathlib.Core.List.{List, [], _∷_, _++_, append-assoc}
 use native.Mathlib.Numerals.{add-one}
 use lib.ListN.{length, take, getD}
 use lib.Seq.{take-suc}
@@ -14,10 +14,6 @@ put-append : (p : Row) (vs ws : List ℕ) → putAll (putAll p vs) ws ≡ putAll
 unfolding putAll
 put-append p [] ws = refl
 put-append p (v ∷ vs) ws = put-append (putOf p v) vs ws
-
-pub map-snoc : {A B : Type 0} (f : A → B) (l : List A) (x : A) → map f (l ++ (x ∷ [])) ≡ map f l ++ (f x ∷ [])
-map-snoc f [] x = refl
-map-snoc {B = B} f (a ∷ l) x = ap (λ (r : List B). f a ∷ r) (map-snoc f l x)
 
 pub frames-snoc : (ks : List LaxKeyframe) (k : LaxKeyframe) → framesList (ks ++ (k ∷ [])) ≡ framesList ks ++ frameList k
 unfolding framesList

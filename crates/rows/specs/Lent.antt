@@ -11,12 +11,15 @@ use Rattle.rows.specs.Words.{wordAt, floatAt, firsts}
 abbrev pub lengthAt : List ℕ → ℕ → ℕ
 lengthAt words at = cond (ltb (wordAt words at) 128) (wordAt words at) 128
 
--- 1e30 in every place, which no call writes
+-- 1e30, which no call writes
+abbrev mark : ℕ
+mark = 0x7149_f2ca
+
 abbrev pub markWords : List ℕ
-markWords = replicate 128 0x7149_f2ca
+markWords = replicate 128 mark
 
 abbrev pub markFloats : List Float
-markFloats = replicate 128 (ofBits binary32 0x7149_f2ca)
+markFloats = replicate 128 (ofBits binary32 mark)
 
 abbrev pub floatsAt : List ℕ → ℕ → List Float
 floatsAt words from = firsts (λ i. floatAt words (from + i)) 128

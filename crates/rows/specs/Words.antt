@@ -21,7 +21,7 @@ unfoldable pub firsts : {A : Type 0} → (ℕ → A) → ℕ → List A
 firsts f zero = []
 firsts f (suc n) = firsts f n ++ (f n ∷ [])
 
--- its pattern; a zero of either sign is 0, and every NaN has the pattern 0x7fc00000
+-- a float's pattern; a zero of either sign is 0, and every NaN has the pattern 0x7fc00000
 unfoldable pub wordOf : Float → ℕ
 wordOf x = cond (eq x zeroF) 0 (toBits binary32 x)
 

@@ -1,6 +1,6 @@
 -- `accepted` meets its contract, by what its callees ensure. Assumes nothing.
-use Rattle.rows.specs.Words.{putAll}
 use borrow.Author.Needs.{needs}
+use Rattle.rows.specs.Words.{putAll}
 use Rattle.rows.proofs.answers.accepted.Statement.{statement}
 use Rattle.rows.proofs.answers.accepted.Tie as tie
 

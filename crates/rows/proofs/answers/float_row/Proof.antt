@@ -1,6 +1,6 @@
 -- `float_row` meets its contract, by what its callees ensure. Assumes nothing.
-use Rattle.rows.specs.Words.{putAll}
 use borrow.Author.Needs.{needs}
+use Rattle.rows.specs.Words.{putAll}
 use Rattle.rows.proofs.answers.float_row.Statement.{statement}
 use Rattle.rows.proofs.answers.float_row.Tie as tie
 

@@ -1,6 +1,6 @@
 -- `kept` meets its contract, by what its callees ensure. Assumes nothing.
-use Rattle.rows.proofs.Fronts.{denied}
 use borrow.Author.Needs.{needs}
+use Rattle.rows.proofs.Told.{denied}
 use Rattle.rows.proofs.answers.kept.Statement.{statement}
 use Rattle.rows.proofs.answers.kept.Tie as tie
 

@@ -1,6 +1,6 @@
 -- `refused` meets its contract, by what its callees ensure. Assumes nothing.
-use Rattle.rows.specs.Words.{putAll}
 use borrow.Author.Needs.{needs}
+use Rattle.rows.specs.Words.{putAll}
 use Rattle.rows.proofs.answers.refused.Statement.{statement}
 use Rattle.rows.proofs.answers.refused.Tie as tie
 

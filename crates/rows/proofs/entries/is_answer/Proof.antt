@@ -1,7 +1,8 @@
 -- `is_answer` meets its contract, by what `is_rest` ensures. Assumes nothing.
 use native.Mathlib.Omega.{arith}
-use Rattle.rows.proofs.Fronts.{front, no}
 use borrow.Author.Needs.{needs}
+use Rattle.rows.proofs.Fronts.{front}
+use Rattle.rows.proofs.Told.{no}
 use Rattle.rows.proofs.entries.is_answer.Statement.{statement}
 use Rattle.rows.proofs.entries.is_answer.Tie as tie
 

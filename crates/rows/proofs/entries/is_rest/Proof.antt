@@ -4,7 +4,8 @@ use mathlib.Core.Path.{_≡_, refl}
 use native.Mathlib.Omega.{arith}
 use borrow.Author.Needs.{needs}
 use lib.ListN.{length, take, drop}
-use Rattle.rows.proofs.Fronts.{one-more, all-same, no-room, same-word, yes, no}
+use Rattle.rows.proofs.Fronts.{one-more, all-same, no-room, same-word}
+use Rattle.rows.proofs.Told.{yes, no}
 use Rattle.rows.proofs.entries.is_rest.Statement.{statement}
 use Rattle.rows.proofs.entries.is_rest.Tie as tie
 

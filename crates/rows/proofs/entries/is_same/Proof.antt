@@ -1,6 +1,6 @@
 -- `is_same` meets its contract, by what `is_rest` ensures. Assumes nothing.
-use Rattle.rows.proofs.Fronts.{whole, of-whole}
 use borrow.Author.Needs.{needs}
+use Rattle.rows.proofs.Fronts.{whole, of-whole}
 use Rattle.rows.proofs.entries.is_same.Statement.{statement}
 use Rattle.rows.proofs.entries.is_same.Tie as tie
 

@@ -1,8 +1,8 @@
 -- `put` meets its contract. Assumes nothing.
 use mathlib.Core.Path.{refl}
 use borrow.Author.Tests.{lt-ltb, le-ltb}
-use Rattle.rows.specs.Words.{putOf}
 use borrow.Author.Needs.{needs}
+use Rattle.rows.specs.Words.{putOf}
 use Rattle.rows.proofs.entries.put.Statement.{statement}
 use Rattle.rows.proofs.entries.put.Tie as tie
 

@@ -3,11 +3,11 @@ use Prim.Native.Nat.{_≤_, _+_, _-_, _*_}
 use mathlib.Core.Path.{_≡_, refl, _∙_}
 use mathlib.Core.List.{[], _++_}
 use native.Mathlib.Omega.{arith}
+use borrow.Author.Needs.{needs}
 use lib.ListN.{length, drop, replicate, length-set}
 use Rattle.rows.specs.Words.{firsts}
 use Rattle.rows.specs.Records.{frameAt, framesAt}
 use Rattle.rows.proofs.Filled.{fill-none, fill-one}
-use borrow.Author.Needs.{needs}
 use Rattle.rows.proofs.given.frames_at.Statement.{statement}
 use Rattle.rows.proofs.given.frames_at.Tie as tie
 

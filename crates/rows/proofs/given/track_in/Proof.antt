@@ -1,6 +1,6 @@
 -- `track_in` meets its contract, by what its callees ensure. Assumes nothing.
-use Rattle.rows.specs.Records.{trackIn}
 use borrow.Author.Needs.{needs}
+use Rattle.rows.specs.Records.{trackIn}
 use Rattle.rows.proofs.given.track_in.Statement.{statement}
 use Rattle.rows.proofs.given.track_in.Tie as tie
 

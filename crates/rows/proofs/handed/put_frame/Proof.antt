@@ -1,6 +1,6 @@
 -- `put_frame` meets its contract, by what its callees ensure. Assumes nothing.
-use Rattle.rows.specs.Words.{putAll}
 use borrow.Author.Needs.{needs}
+use Rattle.rows.specs.Words.{putAll}
 use Rattle.rows.proofs.handed.put_frame.Statement.{statement}
 use Rattle.rows.proofs.handed.put_frame.Tie as tie
 

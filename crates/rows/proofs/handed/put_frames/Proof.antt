@@ -2,11 +2,11 @@
 use Prim.Native.Nat.{_≤_, _-_}
 use mathlib.Core.Path.{_≡_, refl}
 use native.Mathlib.Omega.{arith}
+use borrow.Author.Needs.{needs}
 use lib.ListN.{length, take}
 use Rattle.rows.specs.Words.{putAll}
 use Rattle.rows.specs.Written.{frameList, framesList}
 use Rattle.rows.proofs.Written.{frames-snoc, put-more}
-use borrow.Author.Needs.{needs}
 use Rattle.rows.proofs.handed.put_frames.Statement.{statement}
 use Rattle.rows.proofs.handed.put_frames.Tie as tie
 

@@ -1,6 +1,6 @@
 -- `put_track` meets its contract, by what its callees ensure. Assumes nothing.
-use Rattle.rows.specs.Words.{putAll}
 use borrow.Author.Needs.{needs}
+use Rattle.rows.specs.Words.{putAll}
 use Rattle.rows.proofs.handed.put_track.Statement.{statement}
 use Rattle.rows.proofs.handed.put_track.Tie as tie
 

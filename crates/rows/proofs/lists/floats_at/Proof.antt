@@ -3,10 +3,10 @@ use Prim.Native.Nat.{_≤_, _+_, _-_}
 use mathlib.Core.Path.{_≡_, refl, _∙_}
 use mathlib.Core.List.{_++_, append-nil}
 use native.Mathlib.Omega.{arith}
+use borrow.Author.Needs.{needs}
 use lib.ListN.{length, drop, length-set}
 use Rattle.rows.specs.Words.{floatAt, firsts}
 use Rattle.rows.proofs.Filled.{fill-none, fill-one}
-use borrow.Author.Needs.{needs}
 use Rattle.rows.proofs.lists.floats_at.Statement.{statement}
 use Rattle.rows.proofs.lists.floats_at.Tie as tie
 

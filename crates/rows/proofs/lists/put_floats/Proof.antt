@@ -1,12 +1,12 @@
 -- `put_floats` meets its contract. The invariant: the first i floats are written. The measure is the floats that are left. Assumes nothing.
 use Prim.Native.Nat.{_≤_, _-_}
 use mathlib.Core.Path.{_≡_, refl}
-use mathlib.Core.List.{[], _∷_, map}
+use mathlib.Core.List.{[], _∷_, map, map-append}
 use native.Mathlib.Omega.{arith}
+use borrow.Author.Needs.{needs}
 use lib.ListN.{length, take}
 use Rattle.rows.specs.Words.{wordOf, putAll}
-use Rattle.rows.proofs.Written.{map-snoc, put-more}
-use borrow.Author.Needs.{needs}
+use Rattle.rows.proofs.Written.{put-more}
 use Rattle.rows.proofs.lists.put_floats.Statement.{statement}
 use Rattle.rows.proofs.lists.put_floats.Tie as tie
 
@@ -33,7 +33,7 @@ put-floats-spec =
     let s = c .before .before in
     let t = s .before .args .t2 in
     let l : length t ≡ 128 = s .before .good .1 .0 .1 .0 .1 in
-    (omega arith, rw (c .put-float .ensures, s .loop .inv .1) (put-more (map wordOf) (λ x. wordOf x ∷ []) (map-snoc wordOf) _ t _ (s .loop .i) (omega arith))))
+    (omega arith, rw (c .put-float .ensures, s .loop .inv .1) (put-more (map wordOf) (λ x. wordOf x ∷ []) (λ l x. map-append wordOf l (x ∷ [])) _ t _ (s .loop .i) (omega arith))))
     (λ c.
     let s = c .before in
     let e : s .loop .i ≡ s .before .args .count = omega arith in

@@ -3,10 +3,10 @@ use Prim.Native.Nat.{_≤_, _-_}
 use mathlib.Core.Path.{_≡_, refl}
 use mathlib.Core.List.{[], _∷_}
 use native.Mathlib.Omega.{arith}
+use borrow.Author.Needs.{needs}
 use lib.ListN.{length, take}
 use Rattle.rows.specs.Words.{putAll}
 use Rattle.rows.proofs.Written.{put-more}
-use borrow.Author.Needs.{needs}
 use Rattle.rows.proofs.lists.put_words.Statement.{statement}
 use Rattle.rows.proofs.lists.put_words.Tie as tie
 
