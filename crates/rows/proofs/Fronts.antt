@@ -1,11 +1,11 @@
 -- Two lists that agree at their fronts. Assumes nothing.
-use mathlib.Core.Path.{_≡_, refl, sym, _∙_}
+use mathlib.Core.Path.{_≡_, refl, sym, ap, _∙_}
 use mathlib.Core.List.{List}
 use Prim.Native.Nat.{ℕ, _+_, _<_, _≤_}
 use native.Mathlib.Numerals.{add-one}
 use native.Mathlib.Omega.{arith}
 use lib.ListN.{length, take, drop, getD, length-drop}
-use lib.Seq.{take-suc, getD-drop, take-all, length-take-le}
+use lib.Seq.{take-suc, getD-drop, getD-take, take-all, length-take-le}
 use Rattle.rows.specs.Words.{Rest}
 
 -- what a part from the front has for its length
@@ -23,3 +23,20 @@ module _ (words out : List ℕ) (from n : ℕ) (count : length words ≡ from + 
   all-same t =
       let k : length (drop from words) ≡ n = rw length-drop (omega arith) in
       record { count = count; same = sym (take-all n (drop from words) (omega arith)) ∙ t }
+
+module _ {words out : List ℕ} {from n : ℕ} (r : Rest words from out n) where
+  pub no-room : length out < n → ⊥
+  no-room h =
+      let e : length (drop from words) ≡ length out = ap length (r .same ∙ take-all n out (omega arith)) in
+      omega (arith, e, length-drop from words, r .count, h)
+
+  pub same-word : (i : ℕ) → i < n → getD words (from + i) 0 ≡ getD out i 0
+  same-word i h = sym (getD-drop from words i 0) ∙ (ap (λ (l : List ℕ). getD l i 0) (r .same) ∙ getD-take n out i 0 h)
+
+-- all of a list of n words
+module _ (words out : List ℕ) (n : ℕ) (count : length words ≡ n) (room : length out ≡ n) where
+  pub whole : Rest words 0 out n → words ≡ out
+  whole r = r .same ∙ take-all n out (omega (arith, room))
+
+  pub of-whole : words ≡ out → Rest words 0 out n
+  of-whole e = record { count = omega (arith, count); same = e ∙ sym (take-all n out (omega (arith, room))) }

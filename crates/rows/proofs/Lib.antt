@@ -1,3 +1,6 @@
 -- Laws that the functions' proofs cite.
-pub mod Fronts
+pub mod Filled
 pub mod Floats
+pub mod Fronts
+pub mod Told
+pub mod Written

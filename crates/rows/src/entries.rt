@@ -1,13 +1,13 @@
 // Words of the list, and the floats in them.
-ghost use mathlib.Core.Bool.{true};
 ghost use mathlib.Core.Path.{_≡_};
+ghost use Prim.Native.Nat.{_≤_};
 ghost use lib.Ieee.{binary32, ofBits};
-ghost use lib.ListN.{getD};
-ghost use Rattle.rows.specs.Words.{wordOf, Rest};
+ghost use lib.ListN.{take};
+ghost use Rattle.rows.specs.Words.{wordAt, floatAt, wordOf, emptyRow, putOf, Rest, Tells};
 
 // The word at a place; 0 behind the last.
 pub fn word(words: [u32; 1024], at: usize) -> u32
-    ensures { λ r. ⌜ r ≡ getD words at 0 ⌝ }
+    ensures { λ r. ⌜ r ≡ wordAt words at ⌝ }
 {
     if at < 1024 { words[at] } else { 0 }
 }
@@ -22,7 +22,9 @@ pub fn float_of(bits: u32) -> f32
     f32::from_bits(bits)
 }
 
-pub fn float_at(words: [u32; 1024], at: usize) -> f32 {
+pub fn float_at(words: [u32; 1024], at: usize) -> f32
+    ensures { λ r. ⌜ r ≡ floatAt words at ⌝ }
+{
     float_of(word(words, at))
 }
 
@@ -45,13 +47,17 @@ pub struct Row {
     pub count: usize,
 }
 
-pub fn nothing() -> Row {
+pub fn nothing() -> Row
+    ensures { λ r. ⌜ r ≡ emptyRow ⌝ }
+{
     let list = [0u32; 1024];
     Row { list, count: 0 }
 }
 
 // One word more. A word that finds no room is left out.
-pub fn put(p: Row, w: u32) -> Row {
+pub fn put(p: Row, w: u32) -> Row
+    ensures { λ r. ⌜ r ≡ putOf p w ⌝ }
+{
     let mut q = p;
     let n = q.count;
     if n < 1024 {
@@ -61,13 +67,15 @@ pub fn put(p: Row, w: u32) -> Row {
     q
 }
 
-pub fn put_float(p: Row, x: f32) -> Row {
+pub fn put_float(p: Row, x: f32) -> Row
+    ensures { λ r. ⌜ r ≡ putOf p (wordOf x) ⌝ }
+{
     put(p, float_word(x))
 }
 
 // Whether the words from a place on are the first n of out.
 pub fn is_rest(words: &[u32], from: usize, out: &[u32], n: usize) -> bool
-    ensures { λ r. ⌜ (r ≡ true → Rest (now (words .entry)) from (now (out .entry)) n) ⌝ }
+    ensures { λ r. ⌜ Tells r (Rest (now (words .entry)) from (now (out .entry)) n) ⌝ }
 {
     if words.len() < from {
         return false;
@@ -89,7 +97,9 @@ pub fn is_rest(words: &[u32], from: usize, out: &[u32], n: usize) -> bool
 }
 
 // Whether the first count words, from a place on, are the answer.
-pub fn is_answer(words: [u32; 1024], count: usize, from: usize, answer: Row) -> bool {
+pub fn is_answer(words: [u32; 1024], count: usize, from: usize, answer: Row) -> bool
+    ensures { λ r. ⌜ Tells r ((count ≤ 1024) × Rest (take count words) from (answer .list) (answer .count)) ⌝ }
+{
     if 1024 < count {
         return false;
     }
@@ -97,7 +107,9 @@ pub fn is_answer(words: [u32; 1024], count: usize, from: usize, answer: Row) -> 
     is_rest(&words[..count], from, &out, answer.count)
 }
 
-pub fn is_same(p: Row, q: Row) -> bool {
+pub fn is_same(p: Row, q: Row) -> bool
+    ensures { λ r. ⌜ Tells r (p .list ≡ q .list) ⌝ }
+{
     let left = p.list;
     let right = q.list;
     is_rest(&left, 0, &right, 1024)

@@ -1,5 +1,7 @@
 // Records out of the words of the list.
+ghost use mathlib.Core.Path.{_≡_};
 ghost use Prim.Native.Nat.{_≤_, _<_};
+ghost use Rattle.rows.specs.Records.{easingAt, loopAt, tweenIn, frameAt, framesAt, trackIn};
 use crate::entries::float_at;
 use crate::entries::word;
 use crate::handed::places;
@@ -11,6 +13,7 @@ use words::LaxTween;
 
 pub fn easing_at(words: [u32; 1024], at: usize) -> LaxEasing
     requires { ⌜ at < 1024 ⌝ }
+    ensures { λ r. ⌜ r ≡ easingAt words at ⌝ }
 {
     LaxEasing {
         kind: word(words, at),
@@ -24,6 +27,7 @@ pub fn easing_at(words: [u32; 1024], at: usize) -> LaxEasing
 
 pub fn loop_at(words: [u32; 1024], at: usize) -> LaxLoop
     requires { ⌜ at < 1024 ⌝ }
+    ensures { λ r. ⌜ r ≡ loopAt words at ⌝ }
 {
     LaxLoop {
         mode: word(words, at),
@@ -31,7 +35,9 @@ pub fn loop_at(words: [u32; 1024], at: usize) -> LaxLoop
     }
 }
 
-pub fn tween_in(words: [u32; 1024]) -> LaxTween {
+pub fn tween_in(words: [u32; 1024]) -> LaxTween
+    ensures { λ r. ⌜ r ≡ tweenIn words ⌝ }
+{
     LaxTween {
         start: float_at(words, 0),
         end: float_at(words, 1),
@@ -50,6 +56,7 @@ pub fn tween_in(words: [u32; 1024]) -> LaxTween {
 
 fn frame_at(words: [u32; 1024], at: usize) -> LaxKeyframe
     requires { ⌜ at < 1000 ⌝ }
+    ensures { λ r. ⌜ r ≡ frameAt words at ⌝ }
 {
     LaxKeyframe {
         time: float_at(words, at),
@@ -62,6 +69,7 @@ fn frame_at(words: [u32; 1024], at: usize) -> LaxKeyframe
 fn frames_at(words: [u32; 1024], from: usize, count: usize) -> [LaxKeyframe; 64]
     requires { ⌜ from < 100 ⌝ }
     requires { ⌜ count ≤ 64 ⌝ }
+    ensures { λ r. ⌜ r ≡ framesAt words from count ⌝ }
 {
     let mut frames = [frame_at([0u32; 1024], 0); 64];
     let mut i: usize = 0;
@@ -73,7 +81,9 @@ fn frames_at(words: [u32; 1024], from: usize, count: usize) -> [LaxKeyframe; 64]
 }
 
 // Its head, then its frames.
-pub fn track_in(words: [u32; 1024]) -> LaxTrack {
+pub fn track_in(words: [u32; 1024]) -> LaxTrack
+    ensures { λ r. ⌜ r ≡ trackIn words ⌝ }
+{
     let frames = frames_at(words, 6, places(word(words, 0)));
     LaxTrack {
         frames,

@@ -1,5 +1,11 @@
 // Records that the library hands back, as words of the list.
+ghost use mathlib.Core.Path.{_≡_};
 ghost use Prim.Native.Nat.{_≤_};
+ghost use lib.ListN.{take};
+ghost use Rattle.words.specs.Tweens.{tweenWords};
+ghost use Rattle.words.specs.Tracks.{placesIn, trackWords};
+ghost use Rattle.rows.specs.Words.{putAll, rowOf};
+ghost use Rattle.rows.specs.Written.{easingList, settingsList, tweenList, frameList, framesList, trackList};
 use crate::entries::Row;
 use crate::entries::nothing;
 use crate::entries::put;
@@ -13,7 +19,9 @@ use words::LaxTween;
 use words::track_words;
 use words::tween_words;
 
-pub fn put_easing(before: Row, e: LaxEasing) -> Row {
+pub fn put_easing(before: Row, e: LaxEasing) -> Row
+    ensures { λ r. ⌜ r ≡ putAll before (easingList e) ⌝ }
+{
     let mut p = put(before, e.kind);
     p = put_float(p, e.a);
     p = put_float(p, e.b);
@@ -23,7 +31,9 @@ pub fn put_easing(before: Row, e: LaxEasing) -> Row {
 }
 
 // What stays while a tween runs.
-fn put_settings(before: Row, w: LaxTween) -> Row {
+fn put_settings(before: Row, w: LaxTween) -> Row
+    ensures { λ r. ⌜ r ≡ putAll before (settingsList w) ⌝ }
+{
     let mut p = put_float(before, w.start);
     p = put_float(p, w.end);
     p = put_float(p, w.duration);
@@ -34,7 +44,9 @@ fn put_settings(before: Row, w: LaxTween) -> Row {
     put(p, w.looping.passes)
 }
 
-pub fn put_tween(before: Row, t: Tween) -> Row {
+pub fn put_tween(before: Row, t: Tween) -> Row
+    ensures { λ r. ⌜ r ≡ putAll before (tweenList (tweenWords t)) ⌝ }
+{
     let w = tween_words(t);
     let mut p = put_settings(before, w);
     p = put_float(p, w.elapsed);
@@ -44,11 +56,15 @@ pub fn put_tween(before: Row, t: Tween) -> Row {
     put(p, w.ping_pong_reverse)
 }
 
-pub fn tween_row(t: Tween) -> Row {
+pub fn tween_row(t: Tween) -> Row
+    ensures { λ r. ⌜ r ≡ rowOf (tweenList (tweenWords t)) ⌝ }
+{
     put_tween(nothing(), t)
 }
 
-fn put_frame(before: Row, k: LaxKeyframe) -> Row {
+fn put_frame(before: Row, k: LaxKeyframe) -> Row
+    ensures { λ r. ⌜ r ≡ putAll before (frameList k) ⌝ }
+{
     let mut p = put_float(before, k.time);
     p = put_float(p, k.value);
     put_easing(p, k.easing)
@@ -56,13 +72,14 @@ fn put_frame(before: Row, k: LaxKeyframe) -> Row {
 
 // How many of the 64 places are frames.
 pub fn places(count: u32) -> usize
-    ensures { λ r. ⌜ r ≤ 64 ⌝ }
+    ensures { λ r. ⌜ (r ≤ 64) × (r ≡ placesIn count) ⌝ }
 {
     if count < 64 { count as usize } else { 64 }
 }
 
 fn put_frames(before: Row, frames: [LaxKeyframe; 64], count: usize) -> Row
     requires { ⌜ count ≤ 64 ⌝ }
+    ensures { λ r. ⌜ r ≡ putAll before (framesList (take count frames)) ⌝ }
 {
     let mut p = before;
     let mut i: usize = 0;
@@ -74,7 +91,9 @@ fn put_frames(before: Row, frames: [LaxKeyframe; 64], count: usize) -> Row
 }
 
 // Its head, then its frames. came is the track that the call was given.
-pub fn put_track(before: Row, came: LaxTrack, t: Track) -> Row {
+pub fn put_track(before: Row, came: LaxTrack, t: Track) -> Row
+    ensures { λ r. ⌜ r ≡ putAll before (trackList (trackWords (came .frames) t)) ⌝ }
+{
     let behind = came.frames;
     let w = track_words(behind, t);
     let mut p = put(before, w.count);
