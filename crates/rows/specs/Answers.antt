@@ -15,12 +15,13 @@ use Rattle.easing.specs.declared.answers.Equality.{Equality}
 use Rattle.easing.specs.declared.answers.Equality.the-variants as equality
 use Rattle.keyframe.specs.declared.types.Completion.{Completion}
 use Rattle.keyframe.specs.declared.types.Completion.the-variants as completion
+use Rattle.words.specs.Kinds.{unknownWord}
 use Rattle.words.specs.Modes.{flagWord}
 use Rattle.rows.specs.Words.{wordOf}
 
 -- a word is no kind, no mode or no state
 abbrev pub unknownWords : List ℕ
-unknownWords = 100 ∷ []
+unknownWords = unknownWord ∷ []
 
 abbrev pub refusedWords : Refusal → List ℕ
 refusedWords refusal = numberOf refusal ∷ []

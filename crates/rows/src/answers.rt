@@ -13,15 +13,13 @@ use keyframe::Completion;
 use refusal::Refusal;
 use units::InProgress;
 use units::InSeconds;
+use words::UNKNOWN_WORD;
 use words::flag_word;
-
-// The number where a word is no kind, no mode or no state.
-const UNKNOWN: u32 = 100;
 
 pub fn unknown() -> Row
     ensures { λ r. ⌜ r ≡ rowOf unknownWords ⌝ }
 {
-    put(nothing(), UNKNOWN)
+    put(nothing(), UNKNOWN_WORD)
 }
 
 pub fn refused(refusal: Refusal) -> Row

@@ -4,12 +4,12 @@ ghost use Prim.Native.Nat.{_≤_, _<_};
 ghost use Rattle.rows.specs.Records.{easingAt, loopAt, tweenIn, frameAt, framesAt, trackIn};
 use crate::entries::float_at;
 use crate::entries::word;
-use crate::handed::places;
 use words::LaxEasing;
 use words::LaxKeyframe;
 use words::LaxLoop;
 use words::LaxTrack;
 use words::LaxTween;
+use words::places;
 
 pub fn easing_at(words: [u32; 1024], at: usize) -> LaxEasing
     requires { ⌜ at < 1024 ⌝ }
@@ -84,7 +84,7 @@ fn frames_at(words: [u32; 1024], from: usize, count: usize) -> [LaxKeyframe; 64]
 pub fn track_in(words: [u32; 1024]) -> LaxTrack
     ensures { λ r. ⌜ r ≡ trackIn words ⌝ }
 {
-    let frames = frames_at(words, 6, places(word(words, 0)));
+    let frames = frames_at(words, 6, places(word(words, 0) as usize));
     LaxTrack {
         frames,
         count: word(words, 0),

@@ -3,7 +3,7 @@ ghost use mathlib.Core.Path.{_≡_};
 ghost use Prim.Native.Nat.{_≤_};
 ghost use lib.ListN.{take};
 ghost use Rattle.words.specs.Tweens.{tweenWords};
-ghost use Rattle.words.specs.Tracks.{placesIn, trackWords};
+ghost use Rattle.words.specs.Tracks.{trackWords};
 ghost use Rattle.rows.specs.Words.{putAll, rowOf};
 ghost use Rattle.rows.specs.Written.{easingList, settingsList, tweenList, frameList, framesList, trackList};
 use crate::entries::Row;
@@ -16,6 +16,7 @@ use words::LaxEasing;
 use words::LaxKeyframe;
 use words::LaxTrack;
 use words::LaxTween;
+use words::places;
 use words::track_words;
 use words::tween_words;
 
@@ -70,13 +71,6 @@ fn put_frame(before: Row, k: LaxKeyframe) -> Row
     put_easing(p, k.easing)
 }
 
-// How many of the 64 places are frames.
-pub fn places(count: u32) -> usize
-    ensures { λ r. ⌜ (r ≤ 64) × (r ≡ placesIn count) ⌝ }
-{
-    if count < 64 { count as usize } else { 64 }
-}
-
 fn put_frames(before: Row, frames: [LaxKeyframe; 64], count: usize) -> Row
     requires { ⌜ count ≤ 64 ⌝ }
     ensures { λ r. ⌜ r ≡ putAll before (framesList (take count frames)) ⌝ }
@@ -103,5 +97,5 @@ pub fn put_track(before: Row, came: LaxTrack, t: Track) -> Row
     p = put(p, w.loop_count);
     p = put(p, w.complete);
     let frames = w.frames;
-    put_frames(p, frames, places(w.count))
+    put_frames(p, frames, places(w.count as usize))
 }

@@ -21,6 +21,7 @@ pub use tracks::LaxKeyframe;
 pub use tracks::LaxTrack;
 pub use tracks::frame_words;
 pub use tracks::is_known;
+pub use tracks::places;
 pub use tracks::track_of;
 pub use tracks::track_words;
 pub use tweens::LaxTween;

@@ -37,7 +37,7 @@ pub struct LaxTrack {
 }
 
 // How many of the 64 places are looked at.
-fn places(count: usize) -> usize
+pub fn places(count: usize) -> usize
     ensures { λ r. ⌜ (r ≤ 64) × (r ≡ placesIn count) ⌝ }
 {
     if count < 64 { count } else { 64 }

@@ -16,6 +16,7 @@ put-track-spec =
     (λ c κs. search needs)
     (λ c κs. search needs)
     (λ c κs. search needs)
+    (λ c. search needs)
     (λ c κs. search needs)
     (λ c κs. search needs)
-    (λ c. simp (c .put-frames .ensures, c .before .places .ensures .1, c .before .before .before .put5 .ensures, c .before .before .before .before .put4 .ensures, c .before .before .before .before .before .put3 .ensures, c .before .before .before .before .before .before .put2 .ensures, c .before .before .before .before .before .before .before .put-float .ensures, c .before .before .before .before .before .before .before .before .put .ensures, c .before .before .before .before .before .before .before .before .before .track-words .ensures)))
+    (λ c. simp (c .put-frames .ensures, c .before .places .ensures .1, c .before .before .before .before .put5 .ensures, c .before .before .before .before .before .put4 .ensures, c .before .before .before .before .before .before .put3 .ensures, c .before .before .before .before .before .before .before .put2 .ensures, c .before .before .before .before .before .before .before .before .put-float .ensures, c .before .before .before .before .before .before .before .before .before .put .ensures, c .before .before .before .before .before .before .before .before .before .before .track-words .ensures)))
