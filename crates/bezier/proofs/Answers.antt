@@ -17,7 +17,7 @@ unfolding cubicBezier
 answer-at-most p room t x1 y1 x2 y2 w f1 f2 h1 h2 = go (atEnd t)
   where
     u : Float
-    u = (foundOf t x1 x2) .u
+    u = (foundOf t x1 x2) .value
 
     go : (b : Bool) → AtMost (1 + 24 * p) (cond b t (sampleCubicOf y1 y2 u))
     go true = at-most-more 1 (1 + 24 * p) t (omega arith) (within-at-most t w)

@@ -5,15 +5,16 @@ use native.Mathlib.Omega.{arith}
 use lib.Ieee.{Float}
 use Rattle.math.specs.Range.{clamp01Of}
 use Rattle.bezier.specs.Curve.{sampleCubicOf}
-use Rattle.bezier.specs.Search.{Found, foundAt, cutOf, nearOf, turnOf, bisectOf, bisectionOf, newtonOf, solveOf}
+use Rattle.bezier.specs.Search.{foundAt, cutOf, nearOf, turnOf, bisectOf, bisectionOf, newtonOf, solveOf}
 use Rattle.bezier.specs.Bezier.{atEnd, foundOf}
 use Rattle.bezier.specs.declared.types.Turn.{Turn}
 use Rattle.bezier.specs.declared.types.Turn.the-variants.{Near, Flat, Next}
 use Rattle.bezier.specs.declared.types.Span.{Span}
+use Rattle.bezier.specs.declared.types.Found.{Found}
 
 -- at most so many x and so many derivatives
 abbrev pub AtMostEach : ℕ → ℕ → Found → Type 0
-AtMostEach x d f = (f .xs ≤ x) × (f .slopes ≤ d)
+AtMostEach x d f = (f .xs ≤ x) × (f .derivatives ≤ d)
 
 module _ (x1 x2 t : Float) where
   bisect-few : (n : ℕ) (near : Bool) (s : Span) → AtMostEach n 0 (bisectOf x1 x2 t n near s)

@@ -13,10 +13,10 @@ constants = (refl, refl)
 
 -- CubicBezier(0, 0, 1, 1) and CubicBezier(0.25, 0.1, 0.25, 1) at 0.5, and CubicBezier(1, 0, 0, 1) at 0.45: near at t, near after four Newton steps, and not near after all steps and bisections
 pub examples : (cubicBezier halfF zeroF zeroF oneF oneF ≡ halfF)
-    × (foundOf halfF zeroF oneF ≡ record { u = halfF; settled = true; xs = 1; slopes = 0 })
+    × (foundOf halfF zeroF oneF ≡ record { value = halfF; settled = true; xs = 1; derivatives = 0 })
     × (cubicBezier halfF (f32 0x3e80_0000) (f32 0x3dcc_cccd) (f32 0x3e80_0000) oneF ≡ f32 0x3f4d_6a4f)
-    × (foundOf halfF (f32 0x3e80_0000) (f32 0x3e80_0000) ≡ record { u = f32 0x3f33_172e; settled = true; xs = 5; slopes = 4 })
+    × (foundOf halfF (f32 0x3e80_0000) (f32 0x3e80_0000) ≡ record { value = f32 0x3f33_172e; settled = true; xs = 5; derivatives = 4 })
     × (cubicBezier (f32 0x3ee6_6666) oneF zeroF zeroF oneF ≡ f32 0x3e34_c5b3)
-    × (foundOf (f32 0x3ee6_6666) oneF zeroF ≡ record { u = f32 0x3e89_0666; settled = false; xs = 16; slopes = 6 })
+    × (foundOf (f32 0x3ee6_6666) oneF zeroF ≡ record { value = f32 0x3e89_0666; settled = false; xs = 16; derivatives = 6 })
 unfolding cubicBezier foundOf newtonOf bisectOf turnOf sampleCubicOf sampleCubicDerivativeOf add sub mul div neg lt eq round ofBits
 examples = (refl, refl, refl, refl, refl, refl)

@@ -1,19 +1,27 @@
 -- What the definition of the search says, one step at a time. Assumes nothing.
 use Prim.Native.Nat.{ℕ, suc, _+_, _-_, _<_}
-use mathlib.Core.Path.{_≡_, ap}
+use mathlib.Core.Path.{_≡_, refl, ap, _∙_}
 use mathlib.Core.Bool.{Bool, true, false}
 use native.Mathlib.Omega.{arith}
 use lib.Ieee.{Float, lt}
 use Rattle.math.specs.Rounded.{_⊖_, _⊘_}
 use Rattle.math.specs.Range.{clamp01Of, sizeOf}
 use Rattle.bezier.specs.Curve.{sampleCubicOf, sampleCubicDerivativeOf}
-use Rattle.bezier.specs.Search.{Found, foundAt, after, tinyF, cutOf, missOf, nearOf, turnOf, bisectOf, bisectionOf, newtonOf}
+use Rattle.bezier.specs.Search.{foundAt, after, tinyF, cutOf, missOf, nearOf, turnOf, bisectOf, bisectionOf, newtonOf}
 use Rattle.bezier.specs.declared.types.Turn.{Turn}
 use Rattle.bezier.specs.declared.types.Turn.the-variants.{Near, Flat, Next}
 use Rattle.bezier.specs.declared.types.Span.{Span}
+use Rattle.bezier.specs.declared.types.Found.{Found}
 
-pub same-u : {f g : Found} → f ≡ g → f .u ≡ g .u
-same-u e = ap (λ (f : Found). f .u) e
+-- an answer whose counts are those of f
+pub counts : (f : Found) (x d : ℕ) {g : Found} → f ≡ g → x ≡ f .xs → d ≡ f .derivatives → record { value = f .value; settled = f .settled; xs = x; derivatives = d } ≡ g
+counts f x d e p q = rw (p, q) e
+
+pub after-none : (f : Found) → after 0 0 f ≡ f
+after-none f = counts f (0 + f .xs) (0 + f .derivatives) refl (omega arith) (omega arith)
+
+pub after-both : (x d y e : ℕ) (f : Found) → after (x + y) (d + e) f ≡ after x d (after y e f)
+after-both x d y e f = counts (after x d (after y e f)) (x + y + f .xs) (d + e + f .derivatives) refl (omega arith) (omega arith)
 
 -- a Newton step, by its tests
 module _ (x1 x2 t u : Float) where
@@ -47,9 +55,12 @@ module _ (x1 x2 t : Float) (n k : ℕ) where
   unfolding newtonOf
   newton-next u v h e = rw (left n k h, e)
 
-  pub newton-spent : (u : Float) (turn : Turn) → n - k ≡ 0 → newtonOf x1 x2 t (n - k) turn u ≡ bisectionOf x1 x2 t
+  spent : (u : Float) (turn : Turn) → n - k ≡ 0 → bisectionOf x1 x2 t ≡ newtonOf x1 x2 t (n - k) turn u
   unfolding newtonOf
-  newton-spent u turn e = rw e
+  spent u turn e = rw e
+
+  pub newton-spent : (u : Float) (turn : Turn) → n ≡ k → after n n (bisectionOf x1 x2 t) ≡ after k k (newtonOf x1 x2 t (n - k) turn u)
+  newton-spent u turn e = ap (λ (m : ℕ). after m m (bisectionOf x1 x2 t)) e ∙ ap (after k k) (spent u turn (omega arith))
 
   pub bisect-near : (s : Span) → k < n → nearOf x1 x2 t (s .u) ≡ true → bisectOf x1 x2 t (n - k) (nearOf x1 x2 t (s .u)) s ≡ after 1 0 (foundAt true (s .u))
   unfolding bisectOf

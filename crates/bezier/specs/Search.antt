@@ -8,21 +8,19 @@ use Rattle.bezier.specs.Curve.{sampleCubicOf, sampleCubicDerivativeOf}
 use Rattle.bezier.specs.declared.types.Turn.{Turn}
 use Rattle.bezier.specs.declared.types.Turn.the-variants.{Near, Flat, Next}
 use Rattle.bezier.specs.declared.types.Span.{Span}
-
--- what the search found: the u, whether the last x evaluated met the tolerance, and how many x and how many derivatives were evaluated
-pub record Found : Type 0 where
-  pub u : Float
-  pub settled : Bool
-  pub xs : ℕ
-  pub slopes : ℕ
+use Rattle.bezier.specs.declared.types.Found.{Found}
 
 -- found with no evaluation
 abbrev pub foundAt : Bool → Float → Found
-foundAt b u = record { u = u; settled = b; xs = 0; slopes = 0 }
+foundAt b v = record { value = v; settled = b; xs = 0; derivatives = 0 }
 
 -- found after so many x and so many derivatives more
 abbrev pub after : ℕ → ℕ → Found → Found
-after x d f = record { u = f .u; settled = f .settled; xs = x + f .xs; slopes = d + f .slopes }
+after x d f = record { value = f .value; settled = f .settled; xs = x + f .xs; derivatives = d + f .derivatives }
+
+-- another value, by the same search
+abbrev pub withValue : Float → Found → Found
+withValue v f = record { value = v; settled = f .settled; xs = f .xs; derivatives = f .derivatives }
 
 -- 1e-6
 abbrev pub tinyF : Float

@@ -5,3 +5,4 @@ mod search;
 mod types;
 
 pub use bezier::cubic_bezier;
+pub use types::Found;

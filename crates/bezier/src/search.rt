@@ -1,8 +1,10 @@
 // The search for the u at which the curve's x is t.
 ghost use mathlib.Core.Path.{_≡_};
-ghost use Rattle.bezier.specs.Search.{turnOf, middleOf, cutOf, nearOf, bisectOf, solveOf};
+ghost use Prim.Native.Nat.{_≤_};
+ghost use Rattle.bezier.specs.Search.{after, turnOf, middleOf, cutOf, bisectionOf, solveOf};
 use crate::curve::sample_cubic;
 use crate::curve::sample_cubic_derivative;
+use crate::types::Found;
 use crate::types::Span;
 use crate::types::Turn;
 
@@ -49,44 +51,59 @@ fn cut(s: Span, x: f32, t: f32) -> Span
     }
 }
 
-// Up to 10 bisections. The u of the last is taken unseen: its x is not worked out.
-fn bisect(x1: f32, x2: f32, t: f32, start: Span) -> f32
-    ensures { λ r. ⌜ r ≡ (bisectOf x1 x2 t 10 (nearOf x1 x2 t (start .u)) start) .u ⌝ }
+// Up to 10 bisections from t, behind so many Newton steps. The u of the last is taken unseen: its x is not worked out.
+fn bisect(x1: f32, x2: f32, t: f32, steps: u32) -> Found
+    requires { ⌜ steps ≤ 6 ⌝ }
+    ensures { λ r. ⌜ r ≡ after steps steps (bisectionOf x1 x2 t) ⌝ }
 {
-    let mut s = start;
+    let mut s = Span {
+        low: 0.0,
+        high: 1.0,
+        u: t,
+    };
     for k in 0..10u32 {
         let u = s.u;
         let x = sample_cubic(x1, x2, u);
         if math::size(x - t) < TOLERANCE {
-            return u;
+            return Found {
+                value: u,
+                settled: true,
+                xs: steps + k + 1,
+                derivatives: steps,
+            };
         }
         s = cut(s, x, t);
     }
-    s.u
+    Found {
+        value: s.u,
+        settled: false,
+        xs: steps + 10,
+        derivatives: steps,
+    }
 }
 
-// Newton steps from t; where they do not end near enough, bisections, again from t.
-pub fn solve(x1: f32, x2: f32, t: f32) -> f32
-    ensures { λ r. ⌜ r ≡ (solveOf x1 x2 t) .u ⌝ }
+// Newton steps from t, each with an x and a derivative; where they do not end near enough, bisections, again from t.
+pub fn solve(x1: f32, x2: f32, t: f32) -> Found
+    ensures { λ r. ⌜ r ≡ solveOf x1 x2 t ⌝ }
 {
     let mut u = t;
     for k in 0..6u32 {
         match newton_turn(x1, x2, t, u) {
             Turn::Near => {
-                return u;
+                return Found {
+                    value: u,
+                    settled: true,
+                    xs: k + 1,
+                    derivatives: k,
+                };
             }
             Turn::Flat => {
-                break;
+                return bisect(x1, x2, t, k + 1);
             }
             Turn::Next(v) => {
                 u = v;
             }
         }
     }
-    let start = Span {
-        low: 0.0,
-        high: 1.0,
-        u: t,
-    };
-    bisect(x1, x2, t, start)
+    bisect(x1, x2, t, 6)
 }

@@ -1,4 +1,41 @@
-// What the steps of the search for u hand on.
+// What the search for u finds, and what its steps hand on.
+ghost use mathlib.Core.Path.{_≡_};
+ghost use Rattle.bezier.specs.Search.{foundAt, withValue};
+ghost use mathlib.Core.Bool.{true};
+
+// A value, and the search behind it: whether the last x evaluated met the tolerance, and how many x and how many derivatives were evaluated.
+pub struct Found {
+    pub value: f32,
+    pub settled: bool,
+    pub xs: u32,
+    pub derivatives: u32,
+}
+
+impl Found {
+    // Found without a search.
+    pub fn plain(value: f32) -> Found
+        ensures { λ r. ⌜ r ≡ foundAt true value ⌝ }
+    {
+        Found {
+            value,
+            settled: true,
+            xs: 0,
+            derivatives: 0,
+        }
+    }
+
+    // Another value, by the same search.
+    pub fn with_value(self, value: f32) -> Found
+        ensures { λ r. ⌜ r ≡ withValue value self ⌝ }
+    {
+        Found {
+            value,
+            settled: self.settled,
+            xs: self.xs,
+            derivatives: self.derivatives,
+        }
+    }
+}
 
 // What a Newton step finds at u: the curve's x is near enough to t, the curve is too flat there to go on, or the next u.
 pub enum Turn {

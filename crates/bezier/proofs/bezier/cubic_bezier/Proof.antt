@@ -5,24 +5,27 @@ use Rattle.bezier.proofs.bezier.cubic_bezier.Statement.{statement}
 use Rattle.bezier.proofs.bezier.cubic_bezier.Tie as tie
 
 at-end : tie.Need-returns
-unfolding cubicBezier
-at-end c = rw (c .if1 .taken)
+unfolding cubicBezier foundOf
+at-end c = rw (c .before .if1 .taken) (c .plain .ensures)
 
 inside : tie.Need-returns-2
 unfolding cubicBezier foundOf
 inside c =
     rw (
-      c .before .before .before .before .if1 .left,
-      ← c .before .before .before .clamp01 .ensures,
-      ← c .before .before .clamp012 .ensures,
-      ← c .before .solve .ensures,
-    ) (c .sample-cubic .ensures)
+      c .before .before .before .before .before .if1 .left,
+      ← c .before .before .before .before .clamp01 .ensures,
+      ← c .before .before .before .clamp012 .ensures,
+      ← c .before .before .solve .ensures,
+      ← c .before .sample-cubic .ensures,
+    ) (c .with-value .ensures)
 
 pub cubic-bezier-spec : {M : Type 1} → statement M
 cubic-bezier-spec =
     tie.close
     (tie.spec
+    (λ c κs. search needs)
     at-end
+    (λ c κs. search needs)
     (λ c κs. search needs)
     (λ c κs. search needs)
     (λ c κs. search needs)
