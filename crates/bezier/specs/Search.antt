@@ -55,9 +55,13 @@ module _ (x1 x2 t : Float) where
   bisectOf (suc n) true s = after 1 0 (foundAt true (s .u))
   bisectOf (suc n) false s = let r = cutOf s (sampleCubicOf x1 x2 (s .u)) t in after 1 0 (bisectOf n (nearOf (r .u)) r)
 
-  -- "then up to 10 bisections, again from u = t"
+  -- "up to 10 bisections", the first at u
+  abbrev pub bisectFrom : Float → Found
+  bisectFrom u = bisectOf 10 (nearOf u) (record { low = zeroF; high = oneF; u = u })
+
+  -- "then .., again from u = t"
   abbrev pub bisectionOf : Found
-  bisectionOf = bisectOf 10 (nearOf t) (record { low = zeroF; high = oneF; u = t })
+  bisectionOf = bisectFrom t
 
   -- up to so many Newton steps, where `turn` is the step from u; after the last the step from its u is not made
   unfoldable pub newtonOf : ℕ → Turn → Float → Found

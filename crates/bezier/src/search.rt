@@ -1,7 +1,7 @@
 // The search for the u at which the curve's x is t.
 ghost use mathlib.Core.Path.{_≡_};
 ghost use Prim.Native.Nat.{_≤_};
-ghost use Rattle.bezier.specs.Search.{after, turnOf, middleOf, cutOf, bisectionOf, solveOf};
+ghost use Rattle.bezier.specs.Search.{after, turnOf, middleOf, cutOf, bisectFrom, solveOf};
 use crate::curve::sample_cubic;
 use crate::curve::sample_cubic_derivative;
 use crate::types::Found;
@@ -51,15 +51,15 @@ fn cut(s: Span, x: f32, t: f32) -> Span
     }
 }
 
-// Up to 10 bisections from t, behind so many Newton steps. The u of the last is taken unseen: its x is not worked out.
-fn bisect(x1: f32, x2: f32, t: f32, steps: u32) -> Found
+// Up to 10 bisections, the first at `from`, behind so many Newton steps. The u of the last is taken unseen: its x is not worked out.
+fn bisect(x1: f32, x2: f32, t: f32, from: f32, steps: u32) -> Found
     requires { ⌜ steps ≤ 6 ⌝ }
-    ensures { λ r. ⌜ r ≡ after steps steps (bisectionOf x1 x2 t) ⌝ }
+    ensures { λ r. ⌜ r ≡ after steps steps (bisectFrom x1 x2 t from) ⌝ }
 {
     let mut s = Span {
         low: 0.0,
         high: 1.0,
-        u: t,
+        u: from,
     };
     for k in 0..10u32 {
         let u = s.u;
@@ -98,12 +98,12 @@ pub fn solve(x1: f32, x2: f32, t: f32) -> Found
                 };
             }
             Turn::Flat => {
-                return bisect(x1, x2, t, k + 1);
+                return bisect(x1, x2, t, t, k + 1);
             }
             Turn::Next(v) => {
                 u = v;
             }
         }
     }
-    bisect(x1, x2, t, 6)
+    bisect(x1, x2, t, t, 6)
 }

@@ -6,6 +6,8 @@ use mathlib.Core.Option.{Option, none, some}
 use lib.Dec.{T, eqb}
 use lib.Ieee.{Float, isNan, le, lt, eq, ofBits}
 use Rattle.math.specs.Range.{clamp01Of}
+use Rattle.bezier.specs.declared.types.Found.{Found}
+use Rattle.bezier.specs.Search.{foundAt, withValue}
 use Rattle.refusal.specs.declared.Refusal.the-variants.{ProgressIsNan, EasingNotSupplied, EasingParameter}
 use Rattle.easing.specs.declared.kinds.Easing.{Easing}
 use Rattle.easing.specs.declared.params.Params.{Params}
@@ -14,7 +16,7 @@ use Rattle.easing.specs.declared.answers.Eased.the-variants.{Value, Refu
 use Rattle.easing.specs.declared.answers.Equality.the-variants as equality
 use Rattle.easing.specs.Kinds.{numberOf, curveOf, isSome, suppliedOf}
 use Rattle.easing.specs.Params.{noParams, paramsOf, withinOf, equalOf}
-use Rattle.easing.specs.Apply.{limitedOf, easedAt, applyOf, fitsRecordOf, eqOf}
+use Rattle.easing.specs.Apply.{limitedOf, searchOf, easedAt, applyOf, fitsRecordOf, eqOf}
 use lib.Ieee.Fits.{and-l, and-r}
 
 none-within : withinOf noParams ≡ true
@@ -28,23 +30,23 @@ module _ (e : Easing) (t : Float) (b : Bool) (eb : b ≡ isNan t) where
   no-number h = rw (← eb, h)
 
   module _ (h : b ≡ false) where
-    none-refused : (c : Option (Float → Float)) (fine : Bool) (u : Float) → isSome c ≡ false → Refused EasingNotSupplied ≡ easedAt c fine u
-    none-refused none fine u s = refl
-    none-refused (some f) fine u s = absurd (true≢false s)
+    none-refused : (c : Option (Float → Float)) (search : Float → Found) (fine : Bool) (u : Float) → isSome c ≡ false → Refused EasingNotSupplied ≡ easedAt c search fine u
+    none-refused none search fine u s = refl
+    none-refused (some f) search fine u s = absurd (true≢false s)
 
     pub not-supplied : suppliedOf e ≡ false → Refused EasingNotSupplied ≡ applyOf e t
     unfolding applyOf suppliedOf
-    not-supplied s = rw (← eb, h) (none-refused (curveOf e) (withinOf (paramsOf e)) (clamp01Of t) s)
+    not-supplied s = rw (← eb, h) (none-refused (curveOf e) (searchOf e) (withinOf (paramsOf e)) (clamp01Of t) s)
 
     -- at a kind x with no parameters, and with some
-    module _ (u : Float) (eu : u ≡ clamp01Of t) (x : Easing) (ex : e ≡ x) (v w : Float) (ev : v ≡ w) where
-      pub plain : paramsOf x ≡ noParams → easedAt (curveOf x) true u ≡ Value w → Value v ≡ applyOf e t
+    module _ (u : Float) (eu : u ≡ clamp01Of t) (x : Easing) (ex : e ≡ x) where
+      pub bare : (v w : Float) (r : Eased) → v ≡ w → r ≡ Value (foundAt true v) → paramsOf x ≡ noParams → easedAt (curveOf x) (searchOf x) true u ≡ Value (foundAt true w) → r ≡ applyOf e t
       unfolding applyOf
-      plain ep ec = rw (← eb, h, ex, ep, none-within, ← eu, ec, ev)
+      bare v w r ev er ep ec = er ∙ rw (← eb, h, ex, ep, none-within, ← eu, ec, ev)
 
-      pub with-params : (p : Params) (fine : Bool) (r : Eased) → p ≡ paramsOf x → fine ≡ withinOf p → r ≡ limitedOf fine v → ((fine : Bool) → easedAt (curveOf x) fine u ≡ limitedOf fine w) → r ≡ applyOf e t
+      pub with-params : (f g : Found) (p : Params) (fine : Bool) (r : Eased) → f ≡ g → p ≡ paramsOf x → fine ≡ withinOf p → r ≡ limitedOf fine f → ((fine : Bool) → easedAt (curveOf x) (searchOf x) fine u ≡ limitedOf fine g) → r ≡ applyOf e t
       unfolding applyOf
-      with-params p fine r ep ef er ec = er ∙ ap (limitedOf fine) ev ∙ sym (ec fine) ∙ rw (← eb, h, ex, ← ep, ← ef, ← eu)
+      with-params f g p fine r eg ep ef er ec = er ∙ ap (limitedOf fine) eg ∙ sym (ec fine) ∙ rw (← eb, h, ex, ← ep, ← ef, ← eu)
 
 -- s and z say whether the two are supplied
 module _ (x y : Easing) (s z : Bool) (es : s ≡ suppliedOf x) (ez : z ≡ suppliedOf y) where
@@ -63,13 +65,13 @@ module _ (x y : Easing) (s z : Bool) (es : s ≡ suppliedOf x) (ez : z ≡ suppl
     eq-compared k m n b em en eb = rw (em, en, eb, ← es, ← ez, h, ← ep, ← eq, ← ei, ← ej, k)
 
 -- an easing that fits a record answers at any progress that is a number
-pub fits-answers : (e : Easing) (p : Float) → T (fitsRecordOf e) → isNan p ≡ false → (v : Float) × (applyOf e p ≡ Value v)
+pub fits-answers : (e : Easing) (p : Float) → T (fitsRecordOf e) → isNan p ≡ false → (f : Found) × (applyOf e p ≡ Value f)
 unfolding fitsRecordOf suppliedOf applyOf
 fits-answers e p f n =
-    let k = go (curveOf e) (withinOf (paramsOf e)) (clamp01Of p) (and-l (isSome (curveOf e)) (withinOf (paramsOf e)) f) (and-r (isSome (curveOf e)) (withinOf (paramsOf e)) f) in
+    let k = go (curveOf e) (searchOf e) (withinOf (paramsOf e)) (clamp01Of p) (and-l (isSome (curveOf e)) (withinOf (paramsOf e)) f) (and-r (isSome (curveOf e)) (withinOf (paramsOf e)) f) in
     (k .0, rw n (k .1))
   where
-    go : (c : Option (Float → Float)) (fine : Bool) (u : Float) → T (isSome c) → T fine → (v : Float) × (easedAt c fine u ≡ Value v)
-    go none fine u s h = absurd s
-    go (some f) true u s h = (f u, refl)
-    go (some f) false u s h = absurd h
+    go : (c : Option (Float → Float)) (search : Float → Found) (fine : Bool) (u : Float) → T (isSome c) → T fine → (f : Found) × (easedAt c search fine u ≡ Value f)
+    go none search fine u s h = absurd s
+    go (some f) search true u s h = (withValue (f u) (search u), refl)
+    go (some f) search false u s h = absurd h

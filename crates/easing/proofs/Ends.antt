@@ -16,11 +16,11 @@ use Rattle.easing.specs.declared.answers.Eased.{Eased}
 use Rattle.easing.specs.declared.answers.Eased.the-variants.{Value, Refused}
 use Rattle.easing.specs.Kinds.{numberOf, curveOf, suppliedOf, allNamed}
 use Rattle.easing.specs.Params.{paramsOf, withinOf}
-use Rattle.easing.specs.Apply.{applyOf}
+use Rattle.easing.specs.Apply.{searchOf, applyOf}
 use Rattle.easing.specs.Ends.{suppliedIn, ended}
 
 all-ended : T (every ended (suppliedIn allNamed))
-unfolding suppliedOf applyOf withinOf paramsOf curveOf add sub mul div neg lt le eq isNan ofInt ofBits sqrtOf rootFrom inCirc outCirc inOutCirc cubicBezier foundOf
+unfolding suppliedOf applyOf withinOf paramsOf curveOf searchOf add sub mul div neg lt le eq isNan ofInt ofBits sqrtOf rootFrom inCirc outCirc inOutCirc cubicBezier foundOf
 all-ended = tt
 
 pub ends : (e : Easing) → List·Memᴰ e (suppliedIn allNamed) → ended e ≡ true
@@ -37,7 +37,7 @@ numbered = refl
 
 -- by bits: +0 at +0 but for EaseInOutBack, which is -0; and 1 at 1
 abbrev bits : Eased → ℕ
-bits (Value x) = toBits binary32 x
+bits (Value f) = toBits binary32 (f .value)
 bits (Refused r) = 1
 
 abbrev pub at : Float → List Easing → List ℕ
@@ -45,5 +45,5 @@ at t [] = []
 at t (e ∷ es) = bits (applyOf e t) ∷ at t es
 
 pub zeros : at zeroF (suppliedIn allNamed) ≡ 0 ∷ 0 ∷ 0 ∷ 0 ∷ 0 ∷ 0 ∷ 0 ∷ 0 ∷ 0 ∷ 0 ∷ 0 ∷ 0 ∷ 0 ∷ 0 ∷ 0 ∷ 0 ∷ 0 ∷ 0 ∷ 0x8000_0000 ∷ 0 ∷ 0 ∷ 0 ∷ 0 ∷ 0 ∷ 0 ∷ 0 ∷ []
-unfolding suppliedOf applyOf withinOf paramsOf curveOf add sub mul div neg lt le eq isNan ofInt ofBits toBits sqrtOf rootFrom inCirc outCirc inOutCirc cubicBezier foundOf
+unfolding suppliedOf applyOf withinOf paramsOf curveOf searchOf add sub mul div neg lt le eq isNan ofInt ofBits toBits sqrtOf rootFrom inCirc outCirc inOutCirc cubicBezier foundOf
 zeros = refl

@@ -20,13 +20,14 @@ use Rattle.curves.specs.Stairs.{stepsOf}
 use Rattle.bezier.specs.Bezier.{cubicBezier}
 use Rattle.curves.proofs.Bounds.{in-power, out-power, in-out-power, in-back, out-back, in-out-back, in-bounce, out-bounce, in-out-bounce, custom-bounce-most, slow-mo-most, steps-within}
 use Rattle.curves.proofs.Circles.{circ-at-most}
+use Rattle.bezier.specs.declared.types.Found.{Found}
 use Rattle.bezier.proofs.Answers.{answer-at-most}
 use Rattle.refusal.specs.declared.Refusal.the-variants.{ProgressIsNan}
 use Rattle.easing.specs.declared.answers.Eased.{Eased}
 use Rattle.easing.specs.declared.answers.Eased.the-variants.{Value, Refused}
 use Rattle.easing.specs.Kinds.{curveOf}
 use Rattle.easing.specs.Params.{limitF, upTo1024, paramsOf, withinOf}
-use Rattle.easing.specs.Apply.{easedAt, applyOf}
+use Rattle.easing.specs.Apply.{searchOf, easedAt, applyOf}
 use Rattle.easing.specs.declared.kinds.Easing.{Easing}
 use Rattle.easing.specs.declared.kinds.Easing.the-variants.{Linear, EaseInQuad, EaseOutQuad, EaseInOutQuad, EaseInCubic, EaseOutCubic, EaseInOutCubic, EaseInQuart, EaseOutQuart, EaseInOutQuart, EaseInQuint, EaseOutQuint, EaseInOutQuint, EaseInSine, EaseOutSine, EaseInOutSine, EaseInExpo, EaseOutExpo, EaseInOutExpo, EaseInCirc, EaseOutCirc, EaseInOutCirc, EaseInBack, EaseOutBack, EaseInOutBack, EaseInElastic, EaseOutElastic, EaseInOutElastic, EaseInBounce, EaseOutBounce, EaseInOutBounce, CubicBezier, Steps, RoughEase, SlowMo, Wiggle, CustomBounce, ExpoScale}
 
@@ -87,22 +88,22 @@ module _ (u : Float) (w : Within u) where
   bounded (ExpoScale start end) h = tt
 
 abbrev Fine : Eased → Type 0
-Fine (Value v) = AtMost 134217728 v
+Fine (Value f) = AtMost 134217728 (f .value)
 Fine (Refused r) = Unit {0}
 
-eased-fine : (c : Option (Float → Float)) (fine : Bool) (u : Float) → (T fine → Bounded c u) → Fine (easedAt c fine u)
-eased-fine none fine u h = tt
-eased-fine (some f) true u h = h tt
-eased-fine (some f) false u h = tt
+eased-fine : (c : Option (Float → Float)) (search : Float → Found) (fine : Bool) (u : Float) → (T fine → Bounded c u) → Fine (easedAt c search fine u)
+eased-fine none search fine u h = tt
+eased-fine (some f) search true u h = h tt
+eased-fine (some f) search false u h = tt
 
 apply-fine : (e : Easing) (t : Float) → Fine (applyOf e t)
 unfolding applyOf
 apply-fine e t =
-    by-test Fine (isNan t) (Refused ProgressIsNan) (easedAt (curveOf e) (withinOf (paramsOf e)) (clamp01Of t)) (λ _. tt)
-    (λ h. eased-fine (curveOf e) (withinOf (paramsOf e)) (clamp01Of t) (bounded (clamp01Of t) (clamped t h) e))
+    by-test Fine (isNan t) (Refused ProgressIsNan) (easedAt (curveOf e) (searchOf e) (withinOf (paramsOf e)) (clamp01Of t)) (λ _. tt)
+    (λ h. eased-fine (curveOf e) (searchOf e) (withinOf (paramsOf e)) (clamp01Of t) (bounded (clamp01Of t) (clamped t h) e))
 
-pub apply-bounded : (e : Easing) (t v : Float) → applyOf e t ≡ Value v → AtMost 134217728 v
-apply-bounded e t v h = subst Fine h (apply-fine e t)
+pub apply-bounded : (e : Easing) (t : Float) (f : Found) → applyOf e t ≡ Value f → AtMost 134217728 (f .value)
+apply-bounded e t f h = subst Fine h (apply-fine e t)
 
-pub apply-finite : (e : Easing) (t v : Float) → applyOf e t ≡ Value v → T (isFinite v)
-apply-finite e t v h = at-most-finite 134217728 v (apply-bounded e t v h)
+pub apply-finite : (e : Easing) (t : Float) (f : Found) → applyOf e t ≡ Value f → T (isFinite (f .value))
+apply-finite e t f h = at-most-finite 134217728 (f .value) (apply-bounded e t f h)

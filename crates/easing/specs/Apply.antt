@@ -1,9 +1,12 @@
 -- Document 01, "Easing" and "Refusal numbers": what an easing answers at a progress, and whether two easings are equal.
-use mathlib.Core.Bool.{Bool, _&&_, cond}
+use mathlib.Core.Bool.{Bool, true, _&&_, cond}
 use mathlib.Core.Option.{Option, none, some}
 use lib.Dec.{eqb}
 use lib.Ieee.{Float, isNan}
 use Rattle.math.specs.Range.{clamp01Of}
+use Rattle.bezier.specs.declared.types.Found.{Found}
+use Rattle.bezier.specs.Search.{foundAt, withValue}
+use Rattle.bezier.specs.Bezier.{foundOf}
 use Rattle.refusal.specs.declared.Refusal.the-variants.{ProgressIsNan, EasingNotSupplied, EasingParameter}
 use Rattle.refusal.specs.Refusing.{unless}
 use Rattle.easing.specs.declared.kinds.Easing.{Easing}
@@ -15,17 +18,21 @@ use Rattle.easing.specs.Kinds.{numberOf, curveOf, suppliedOf}
 use Rattle.easing.specs.Params.{paramsOf, withinOf, equalOf}
 
 -- 3 where a parameter is not within its limits
-abbrev pub limitedOf : Bool → Float → Eased
-limitedOf fine v = unless fine (Refused EasingParameter) (Value v)
+abbrev pub limitedOf : Bool → Found → Eased
+limitedOf fine f = unless fine (Refused EasingParameter) (Value f)
 
--- the curve at t, where there is one; `fine` says whether the parameters are within their limits
-abbrev pub easedAt : Option (Float → Float) → Bool → Float → Eased
-easedAt none fine t = Refused EasingNotSupplied
-easedAt (some curve) fine t = limitedOf fine (curve t)
+-- Request 1: the search behind the curve's value at t, which is CubicBezier's, number 31, with a and c for x1 and x2; "other curves .. count as settled with no evaluations"
+unfoldable pub searchOf : Easing → Float → Found
+searchOf e t = cond (eqb (numberOf e) 31) (foundOf t (paramsOf e .a) (paramsOf e .c)) (foundAt true t)
+
+-- the curve at t, where there is one, with the search behind it; `fine` says whether the parameters are within their limits
+abbrev pub easedAt : Option (Float → Float) → (Float → Found) → Bool → Float → Eased
+easedAt none search fine t = Refused EasingNotSupplied
+easedAt (some curve) search fine t = limitedOf fine (withValue (curve t) (search t))
 
 -- "t is clamped to 0..1, infinities too; NaN is refused with number 1". The order of the refusals is 1, 2, 3
 unfoldable pub applyOf : Easing → Float → Eased
-applyOf e t = cond (isNan t) (Refused ProgressIsNan) (easedAt (curveOf e) (withinOf (paramsOf e)) (clamp01Of t))
+applyOf e t = cond (isNan t) (Refused ProgressIsNan) (easedAt (curveOf e) (searchOf e) (withinOf (paramsOf e)) (clamp01Of t))
 
 -- "Easing inside a record must be supplied and within limits"
 unfoldable pub fitsRecordOf : Easing → Bool

@@ -16,7 +16,7 @@ suppliedIn (e ∷ es) = cond (suppliedOf e) (e ∷ suppliedIn es) (suppliedIn es
 
 -- the answer is a value, and equal to v; a zero of either sign is 0
 abbrev pub equals : Eased → Float → Bool
-equals (Value x) v = eq x v
+equals (Value f) v = eq (f .value) v
 equals (Refused r) v = false
 
 -- 0 at 0, and 1 at 1

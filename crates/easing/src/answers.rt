@@ -1,8 +1,9 @@
 // What the calls of an easing answer.
+use bezier::Found;
 use refusal::Refusal;
 
 pub enum Eased {
-    Value(f32),
+    Value(Found),
     Refused(Refusal),
 }
 

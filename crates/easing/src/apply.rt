@@ -1,19 +1,29 @@
 // The value of an easing at a progress.
 ghost use mathlib.Core.Path.{_≡_};
+ghost use mathlib.Core.Bool.{true};
+ghost use Rattle.bezier.specs.Search.{foundAt};
 ghost use Rattle.easing.specs.Apply.{limitedOf, applyOf};
 use crate::answers::Eased;
 use crate::kinds::Easing;
 use crate::params::params_of;
 use crate::params::within;
+use bezier::Found;
 use refusal::Refusal;
 use units::Progress;
 
+// A curve without a search.
+fn plain(value: f32) -> Eased
+    ensures { λ r. ⌜ r ≡ Eased.Value (foundAt true value) ⌝ }
+{
+    Eased::Value(Found::plain(value))
+}
+
 // `fine` says whether the parameters are within their limits.
-fn limited(fine: bool, value: f32) -> Eased
-    ensures { λ r. ⌜ r ≡ limitedOf fine value ⌝ }
+fn limited(fine: bool, found: Found) -> Eased
+    ensures { λ r. ⌜ r ≡ limitedOf fine found ⌝ }
 {
     if fine {
-        Eased::Value(value)
+        Eased::Value(found)
     } else {
         Eased::Refused(Refusal::EasingParameter)
     }
@@ -29,43 +39,43 @@ impl Easing {
         }
         let u = math::clamp01(t.0);
         match self {
-            Easing::Linear => Eased::Value(u),
-            Easing::EaseInQuad => Eased::Value(curves::ease_in_quad(u)),
-            Easing::EaseOutQuad => Eased::Value(curves::ease_out_quad(u)),
-            Easing::EaseInOutQuad => Eased::Value(curves::ease_in_out_quad(u)),
-            Easing::EaseInCubic => Eased::Value(curves::ease_in_cubic(u)),
-            Easing::EaseOutCubic => Eased::Value(curves::ease_out_cubic(u)),
-            Easing::EaseInOutCubic => Eased::Value(curves::ease_in_out_cubic(u)),
-            Easing::EaseInQuart => Eased::Value(curves::ease_in_quart(u)),
-            Easing::EaseOutQuart => Eased::Value(curves::ease_out_quart(u)),
-            Easing::EaseInOutQuart => Eased::Value(curves::ease_in_out_quart(u)),
-            Easing::EaseInQuint => Eased::Value(curves::ease_in_quint(u)),
-            Easing::EaseOutQuint => Eased::Value(curves::ease_out_quint(u)),
-            Easing::EaseInOutQuint => Eased::Value(curves::ease_in_out_quint(u)),
-            Easing::EaseInCirc => Eased::Value(curves::ease_in_circ(u)),
-            Easing::EaseOutCirc => Eased::Value(curves::ease_out_circ(u)),
-            Easing::EaseInOutCirc => Eased::Value(curves::ease_in_out_circ(u)),
-            Easing::EaseInBack => Eased::Value(curves::ease_in_back(u)),
-            Easing::EaseOutBack => Eased::Value(curves::ease_out_back(u)),
-            Easing::EaseInOutBack => Eased::Value(curves::ease_in_out_back(u)),
-            Easing::EaseInBounce => Eased::Value(curves::ease_in_bounce(u)),
-            Easing::EaseOutBounce => Eased::Value(curves::ease_out_bounce(u)),
-            Easing::EaseInOutBounce => Eased::Value(curves::ease_in_out_bounce(u)),
+            Easing::Linear => plain(u),
+            Easing::EaseInQuad => plain(curves::ease_in_quad(u)),
+            Easing::EaseOutQuad => plain(curves::ease_out_quad(u)),
+            Easing::EaseInOutQuad => plain(curves::ease_in_out_quad(u)),
+            Easing::EaseInCubic => plain(curves::ease_in_cubic(u)),
+            Easing::EaseOutCubic => plain(curves::ease_out_cubic(u)),
+            Easing::EaseInOutCubic => plain(curves::ease_in_out_cubic(u)),
+            Easing::EaseInQuart => plain(curves::ease_in_quart(u)),
+            Easing::EaseOutQuart => plain(curves::ease_out_quart(u)),
+            Easing::EaseInOutQuart => plain(curves::ease_in_out_quart(u)),
+            Easing::EaseInQuint => plain(curves::ease_in_quint(u)),
+            Easing::EaseOutQuint => plain(curves::ease_out_quint(u)),
+            Easing::EaseInOutQuint => plain(curves::ease_in_out_quint(u)),
+            Easing::EaseInCirc => plain(curves::ease_in_circ(u)),
+            Easing::EaseOutCirc => plain(curves::ease_out_circ(u)),
+            Easing::EaseInOutCirc => plain(curves::ease_in_out_circ(u)),
+            Easing::EaseInBack => plain(curves::ease_in_back(u)),
+            Easing::EaseOutBack => plain(curves::ease_out_back(u)),
+            Easing::EaseInOutBack => plain(curves::ease_in_out_back(u)),
+            Easing::EaseInBounce => plain(curves::ease_in_bounce(u)),
+            Easing::EaseOutBounce => plain(curves::ease_out_bounce(u)),
+            Easing::EaseInOutBounce => plain(curves::ease_in_out_bounce(u)),
             Easing::CubicBezier(x1, y1, x2, y2) => limited(
                 within(params_of(self)),
                 bezier::cubic_bezier(u, x1, y1, x2, y2),
             ),
-            Easing::Steps(n) => limited(within(params_of(self)), curves::steps(u, n)),
+            Easing::Steps(n) => limited(within(params_of(self)), Found::plain(curves::steps(u, n))),
             Easing::SlowMo {
                 linear_ratio,
                 power,
             } => limited(
                 within(params_of(self)),
-                curves::slow_mo(u, linear_ratio, power),
+                Found::plain(curves::slow_mo(u, linear_ratio, power)),
             ),
             Easing::CustomBounce { strength } => limited(
                 within(params_of(self)),
-                curves::custom_bounce(u, strength),
+                Found::plain(curves::custom_bounce(u, strength)),
             ),
             _ => Eased::Refused(Refusal::EasingNotSupplied),
         }

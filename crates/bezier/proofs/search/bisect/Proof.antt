@@ -1,19 +1,19 @@
--- `bisect` meets its contract. The loop's invariant: the definition from the span at hand, behind the bisections made, finds what it finds from t. Assumes nothing.
+-- `bisect` meets its contract. The loop's invariant: the definition from the span at hand, behind the bisections made, finds what it finds from the start. Assumes nothing.
 use Prim.Native.Nat.{_≤_, _-_}
 use mathlib.Core.Path.{_≡_, refl, sym, ap, _∙_}
 use mathlib.Core.Bool.{true, false}
 use native.Mathlib.Omega.{arith}
 use borrow.Author.Needs.{needs}
-use Rattle.bezier.specs.Search.{foundAt, after, nearOf, bisectOf, bisectionOf}
+use Rattle.bezier.specs.Search.{foundAt, after, nearOf, bisectOf, bisectFrom}
 use Rattle.bezier.proofs.Steps.{counts, after-none, after-both, bisect-near, bisect-next, bisect-spent}
 use Rattle.bezier.proofs.search.bisect.Statement.{statement}
 use Rattle.bezier.proofs.search.bisect.Tie as tie
 
 abbrev Inv-loop : tie.InvT-loop
-Inv-loop x1 x2 t steps s₀ k₀ s k = (k ≤ 10) × (after k 0 (bisectOf x1 x2 t (10 - k) (nearOf x1 x2 t (s .u)) s) ≡ bisectionOf x1 x2 t)
+Inv-loop x1 x2 t from steps s₀ k₀ s k = (k ≤ 10) × (after k 0 (bisectOf x1 x2 t (10 - k) (nearOf x1 x2 t (s .u)) s) ≡ bisectFrom x1 x2 t from)
 
 abbrev μ-loop : tie.MeasureT-loop
-μ-loop x1 x2 t steps s₀ k₀ s k = 10 - k
+μ-loop x1 x2 t from steps s₀ k₀ s k = 10 - k
 
 near : tie.Need-returns Inv-loop μ-loop
 near c =

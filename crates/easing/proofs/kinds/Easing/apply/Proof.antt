@@ -5,6 +5,8 @@ use mathlib.Core.Path.{_≡_, refl, sym, subst⁻¹, _∙_, ap}
 use lib.Ieee.{Float}
 use Rattle.math.specs.Range.{Within}
 use Rattle.math.proofs.Ranges.{clamped}
+use Rattle.bezier.specs.declared.types.Found.{Found}
+use Rattle.bezier.specs.Search.{foundAt}
 use Rattle.refusal.specs.declared.Refusal.the-variants.{EasingNotSupplied}
 use Rattle.easing.specs.declared.kinds.Easing.{Easing}
 use Rattle.easing.specs.declared.params.Params.{Params}
@@ -12,9 +14,9 @@ use Rattle.easing.specs.declared.answers.Eased.{Eased}
 use Rattle.easing.specs.declared.answers.Eased.the-variants.{Value, Refused}
 use Rattle.easing.specs.Kinds.{curveOf, suppliedOf}
 use Rattle.easing.specs.Params.{noParams, paramsOf, withinOf}
-use Rattle.easing.specs.Apply.{limitedOf, easedAt, applyOf}
+use Rattle.easing.specs.Apply.{limitedOf, searchOf, easedAt, applyOf}
 use Rattle.easing.proofs.Tags.{among, twelve, told, by-tag}
-use Rattle.easing.proofs.Answering.{no-number, not-supplied, plain, with-params}
+use Rattle.easing.proofs.Answering.{no-number, not-supplied, bare, with-params}
 use Rattle.easing.proofs.kinds.Easing.apply.Statement.{statement}
 use Rattle.easing.proofs.kinds.Easing.apply.Tie as tie
 
@@ -36,15 +38,15 @@ module _ (b : tie.After-clamp01) where
   none = not-supplied self t _ (b .before .before .is-nan .ensures) (b .before .if1 .left)
 
   -- at a kind x, whose curve w the call's answer v is
-  module _ (x : Easing) (e : self ≡ x) (v w : Float) (c : v ≡ w) where
-    bare : paramsOf x ≡ noParams → easedAt (curveOf x) true u ≡ Value w → Value v ≡ applyOf self t
-    bare = plain self t _ (b .before .before .is-nan .ensures) (b .before .if1 .left) u (b .clamp01 .ensures) x e v w c
+  module _ (x : Easing) (e : self ≡ x) where
+    plainly : (v w : Float) (r : Eased) → v ≡ w → r ≡ Value (foundAt true v) → paramsOf x ≡ noParams → easedAt (curveOf x) (searchOf x) true u ≡ Value (foundAt true w) → r ≡ applyOf self t
+    plainly = bare self t _ (b .before .before .is-nan .ensures) (b .before .if1 .left) u (b .clamp01 .ensures) x e
 
-    limited : (p : Params) (fine : Bool) (r : Eased) → p ≡ paramsOf x → fine ≡ withinOf p → r ≡ limitedOf fine v → ((fine : Bool) → easedAt (curveOf x) fine u ≡ limitedOf fine w) → r ≡ applyOf self t
-    limited = with-params self t _ (b .before .before .is-nan .ensures) (b .before .if1 .left) u (b .clamp01 .ensures) x e v w c
+    limited : (f g : Found) (p : Params) (fine : Bool) (r : Eased) → f ≡ g → p ≡ paramsOf x → fine ≡ withinOf p → r ≡ limitedOf fine f → ((fine : Bool) → easedAt (curveOf x) (searchOf x) fine u ≡ limitedOf fine g) → r ≡ applyOf self t
+    limited = with-params self t _ (b .before .before .is-nan .ensures) (b .before .if1 .left) u (b .clamp01 .ensures) x e
 
 pub apply-spec : {M : Type 1} → statement M
-unfolding curveOf paramsOf
+unfolding curveOf paramsOf searchOf
 apply-spec =
     tie.close
     (tie.spec
@@ -52,56 +54,68 @@ apply-spec =
     (λ c. no-number _ _ _ (c .before .is-nan .ensures) (c .if1 .taken))
     (λ c κs. search needs)
     (λ c. search needs)
-    (λ c. search needs)
     (λ c κs. search needs)
     (λ c. search needs)
     (λ c κs. search needs)
-    (λ c. search needs)
     (λ c κs. search needs)
     (λ c. search needs)
     (λ c κs. search needs)
-    (λ c. search needs)
     (λ c κs. search needs)
     (λ c. search needs)
     (λ c κs. search needs)
-    (λ c. search needs)
     (λ c κs. search needs)
     (λ c. search needs)
     (λ c κs. search needs)
-    (λ c. search needs)
     (λ c κs. search needs)
     (λ c. search needs)
     (λ c κs. search needs)
-    (λ c. search needs)
     (λ c κs. search needs)
     (λ c. search needs)
+    (λ c κs. search needs)
+    (λ c κs. search needs)
+    (λ c. search needs)
+    (λ c κs. search needs)
+    (λ c κs. search needs)
+    (λ c. search needs)
+    (λ c κs. search needs)
+    (λ c κs. search needs)
+    (λ c. search needs)
+    (λ c κs. search needs)
+    (λ c κs. search needs)
+    (λ c. search needs)
+    (λ c κs. search needs)
+    (λ c κs. search needs)
+    (λ c. search needs)
+    (λ c κs. search needs)
+    (λ c κs. search needs)
+    (λ c. search needs)
+    (λ c κs. search needs)
     (λ c κs. search needs)
     (λ c. search needs)
     (λ c κs. inside (c .before .before))
+    (λ c κs. search needs)
     (λ c. search needs)
     (λ c κs. inside (c .before .before))
+    (λ c κs. search needs)
     (λ c. search needs)
     (λ c κs. inside (c .before .before))
-    (λ c. search needs)
     (λ c κs. search needs)
     (λ c. search needs)
-    (λ c κs. search needs)
-    (λ c. search needs)
-    (λ c κs. search needs)
-    (λ c. search needs)
-    (λ c κs. search needs)
-    (λ c. search needs)
-    (λ c κs. search needs)
-    (λ c. search needs)
-    (λ c κs. search needs)
-    (λ c. search needs)
-    (λ c κs. search needs)
-    (λ c κs. search needs)
     (λ c κs. search needs)
     (λ c κs. search needs)
     (λ c. search needs)
     (λ c κs. search needs)
     (λ c κs. search needs)
+    (λ c. search needs)
+    (λ c κs. search needs)
+    (λ c κs. search needs)
+    (λ c. search needs)
+    (λ c κs. search needs)
+    (λ c κs. search needs)
+    (λ c. search needs)
+    (λ c κs. search needs)
+    (λ c κs. search needs)
+    (λ c. search needs)
     (λ c κs. search needs)
     (λ c κs. search needs)
     (λ c. search needs)
@@ -114,30 +128,43 @@ apply-spec =
     (λ c κs. search needs)
     (λ c κs. search needs)
     (λ c κs. search needs)
-    (λ c. bare (c .before .before) _ (c .enum-told .given .1) _ _ refl refl refl)
-    (λ c. bare (c .before .before .before) _ (c .before .enum-told2 .given .1) _ _ (c .ease-in-quad .ensures) refl refl)
-    (λ c. bare (c .before .before .before) _ (c .before .enum-told3 .given .1) _ _ (c .ease-out-quad .ensures) refl refl)
-    (λ c. bare (c .before .before .before) _ (c .before .enum-told4 .given .1) _ _ (c .ease-in-out-quad .ensures) refl refl)
-    (λ c. bare (c .before .before .before) _ (c .before .enum-told5 .given .1) _ _ (c .ease-in-cubic .ensures) refl refl)
-    (λ c. bare (c .before .before .before) _ (c .before .enum-told6 .given .1) _ _ (c .ease-out-cubic .ensures) refl refl)
-    (λ c. bare (c .before .before .before) _ (c .before .enum-told7 .given .1) _ _ (c .ease-in-out-cubic .ensures) refl refl)
-    (λ c. bare (c .before .before .before) _ (c .before .enum-told8 .given .1) _ _ (c .ease-in-quart .ensures) refl refl)
-    (λ c. bare (c .before .before .before) _ (c .before .enum-told9 .given .1) _ _ (c .ease-out-quart .ensures) refl refl)
-    (λ c. bare (c .before .before .before) _ (c .before .enum-told10 .given .1) _ _ (c .ease-in-out-quart .ensures) refl refl)
-    (λ c. bare (c .before .before .before) _ (c .before .enum-told11 .given .1) _ _ (c .ease-in-quint .ensures) refl refl)
-    (λ c. bare (c .before .before .before) _ (c .before .enum-told12 .given .1) _ _ (c .ease-out-quint .ensures) refl refl)
-    (λ c. bare (c .before .before .before) _ (c .before .enum-told13 .given .1) _ _ (c .ease-in-out-quint .ensures) refl refl)
-    (λ c. bare (c .before .before .before) _ (c .before .enum-told14 .given .1) _ _ (c .ease-in-circ .ensures) refl refl)
-    (λ c. bare (c .before .before .before) _ (c .before .enum-told15 .given .1) _ _ (c .ease-out-circ .ensures) refl refl)
-    (λ c. bare (c .before .before .before) _ (c .before .enum-told16 .given .1) _ _ (c .ease-in-out-circ .ensures) refl refl)
-    (λ c. bare (c .before .before .before) _ (c .before .enum-told17 .given .1) _ _ (c .ease-in-back .ensures) refl refl)
-    (λ c. bare (c .before .before .before) _ (c .before .enum-told18 .given .1) _ _ (c .ease-out-back .ensures) refl refl)
-    (λ c. bare (c .before .before .before) _ (c .before .enum-told19 .given .1) _ _ (c .ease-in-out-back .ensures) refl refl)
-    (λ c. bare (c .before .before .before) _ (c .before .enum-told20 .given .1) _ _ (c .ease-in-bounce .ensures) refl refl)
-    (λ c. bare (c .before .before .before) _ (c .before .enum-told21 .given .1) _ _ (c .ease-out-bounce .ensures) refl refl)
-    (λ c. bare (c .before .before .before) _ (c .before .enum-told22 .given .1) _ _ (c .ease-in-out-bounce .ensures) refl refl)
-    (λ c. limited (c .before .before .before .before .before .before .before) _ (c .before .before .before .before .before .self .given .1) _ _ (c .before .cubic-bezier .ensures) _ _ _ (c .before .before .before .params-of .ensures) (c .before .before .within .ensures) (c .limited .ensures) (λ fine. refl))
-    (λ c. limited (c .before .before .before .before .before .before .before) _ (c .before .before .before .before .before .self2 .given .1) _ _ (c .before .steps .ensures) _ _ _ (c .before .before .before .params-of2 .ensures) (c .before .before .within2 .ensures) (c .limited2 .ensures) (λ fine. refl))
-    (λ c. limited (c .before .before .before .before .before .before .before) _ (c .before .before .before .before .before .self3 .given .1) _ _ (c .before .slow-mo .ensures) _ _ _ (c .before .before .before .params-of3 .ensures) (c .before .before .within3 .ensures) (c .limited3 .ensures) (λ fine. refl))
-    (λ c. limited (c .before .before .before .before .before .before .before) _ (c .before .before .before .before .before .self4 .given .1) _ _ (c .before .custom-bounce .ensures) _ _ _ (c .before .before .before .params-of4 .ensures) (c .before .before .within4 .ensures) (c .limited4 .ensures) (λ fine. refl))
+    (λ c κs. search needs)
+    (λ c. search needs)
+    (λ c κs. search needs)
+    (λ c κs. search needs)
+    (λ c κs. search needs)
+    (λ c κs. search needs)
+    (λ c κs. search needs)
+    (λ c. search needs)
+    (λ c κs. search needs)
+    (λ c κs. search needs)
+    (λ c κs. search needs)
+    (λ c κs. search needs)
+    (λ c κs. search needs)
+    (λ c. plainly (c .before .before .before) _ (c .before .enum-told .given .1) _ _ _ refl (c .plain .ensures) refl refl)
+    (λ c. plainly (c .before .before .before .before) _ (c .before .before .enum-told2 .given .1) _ _ _ (c .before .ease-in-quad .ensures) (c .plain2 .ensures) refl refl)
+    (λ c. plainly (c .before .before .before .before) _ (c .before .before .enum-told3 .given .1) _ _ _ (c .before .ease-out-quad .ensures) (c .plain3 .ensures) refl refl)
+    (λ c. plainly (c .before .before .before .before) _ (c .before .before .enum-told4 .given .1) _ _ _ (c .before .ease-in-out-quad .ensures) (c .plain4 .ensures) refl refl)
+    (λ c. plainly (c .before .before .before .before) _ (c .before .before .enum-told5 .given .1) _ _ _ (c .before .ease-in-cubic .ensures) (c .plain5 .ensures) refl refl)
+    (λ c. plainly (c .before .before .before .before) _ (c .before .before .enum-told6 .given .1) _ _ _ (c .before .ease-out-cubic .ensures) (c .plain6 .ensures) refl refl)
+    (λ c. plainly (c .before .before .before .before) _ (c .before .before .enum-told7 .given .1) _ _ _ (c .before .ease-in-out-cubic .ensures) (c .plain7 .ensures) refl refl)
+    (λ c. plainly (c .before .before .before .before) _ (c .before .before .enum-told8 .given .1) _ _ _ (c .before .ease-in-quart .ensures) (c .plain8 .ensures) refl refl)
+    (λ c. plainly (c .before .before .before .before) _ (c .before .before .enum-told9 .given .1) _ _ _ (c .before .ease-out-quart .ensures) (c .plain9 .ensures) refl refl)
+    (λ c. plainly (c .before .before .before .before) _ (c .before .before .enum-told10 .given .1) _ _ _ (c .before .ease-in-out-quart .ensures) (c .plain10 .ensures) refl refl)
+    (λ c. plainly (c .before .before .before .before) _ (c .before .before .enum-told11 .given .1) _ _ _ (c .before .ease-in-quint .ensures) (c .plain11 .ensures) refl refl)
+    (λ c. plainly (c .before .before .before .before) _ (c .before .before .enum-told12 .given .1) _ _ _ (c .before .ease-out-quint .ensures) (c .plain12 .ensures) refl refl)
+    (λ c. plainly (c .before .before .before .before) _ (c .before .before .enum-told13 .given .1) _ _ _ (c .before .ease-in-out-quint .ensures) (c .plain13 .ensures) refl refl)
+    (λ c. plainly (c .before .before .before .before) _ (c .before .before .enum-told14 .given .1) _ _ _ (c .before .ease-in-circ .ensures) (c .plain14 .ensures) refl refl)
+    (λ c. plainly (c .before .before .before .before) _ (c .before .before .enum-told15 .given .1) _ _ _ (c .before .ease-out-circ .ensures) (c .plain15 .ensures) refl refl)
+    (λ c. plainly (c .before .before .before .before) _ (c .before .before .enum-told16 .given .1) _ _ _ (c .before .ease-in-out-circ .ensures) (c .plain16 .ensures) refl refl)
+    (λ c. plainly (c .before .before .before .before) _ (c .before .before .enum-told17 .given .1) _ _ _ (c .before .ease-in-back .ensures) (c .plain17 .ensures) refl refl)
+    (λ c. plainly (c .before .before .before .before) _ (c .before .before .enum-told18 .given .1) _ _ _ (c .before .ease-out-back .ensures) (c .plain18 .ensures) refl refl)
+    (λ c. plainly (c .before .before .before .before) _ (c .before .before .enum-told19 .given .1) _ _ _ (c .before .ease-in-out-back .ensures) (c .plain19 .ensures) refl refl)
+    (λ c. plainly (c .before .before .before .before) _ (c .before .before .enum-told20 .given .1) _ _ _ (c .before .ease-in-bounce .ensures) (c .plain20 .ensures) refl refl)
+    (λ c. plainly (c .before .before .before .before) _ (c .before .before .enum-told21 .given .1) _ _ _ (c .before .ease-out-bounce .ensures) (c .plain21 .ensures) refl refl)
+    (λ c. plainly (c .before .before .before .before) _ (c .before .before .enum-told22 .given .1) _ _ _ (c .before .ease-in-out-bounce .ensures) (c .plain22 .ensures) refl refl)
+    (λ c. limited (c .before .before .before .before .before .before .before) _ (c .before .before .before .before .before .self .given .1) _ _ _ _ _ (c .before .cubic-bezier .ensures) (c .before .before .before .params-of .ensures) (c .before .before .within .ensures) (c .limited .ensures) (λ fine. refl))
+    (λ c. limited (c .before .before .before .before .before .before .before .before) _ (c .before .before .before .before .before .before .self2 .given .1) _ _ _ _ _ (c .before .plain23 .ensures ∙ ap (foundAt true) (c .before .before .steps .ensures)) (c .before .before .before .before .params-of2 .ensures) (c .before .before .before .within2 .ensures) (c .limited2 .ensures) (λ fine. refl))
+    (λ c. limited (c .before .before .before .before .before .before .before .before) _ (c .before .before .before .before .before .before .self3 .given .1) _ _ _ _ _ (c .before .plain24 .ensures ∙ ap (foundAt true) (c .before .before .slow-mo .ensures)) (c .before .before .before .before .params-of3 .ensures) (c .before .before .before .within3 .ensures) (c .limited3 .ensures) (λ fine. refl))
+    (λ c. limited (c .before .before .before .before .before .before .before .before) _ (c .before .before .before .before .before .before .self4 .given .1) _ _ _ _ _ (c .before .plain25 .ensures ∙ ap (foundAt true) (c .before .before .custom-bounce .ensures)) (c .before .before .before .before .params-of4 .ensures) (c .before .before .before .within4 .ensures) (c .limited4 .ensures) (λ fine. refl))
     (λ c. none (c .before) (told (c .before .before .before .before .args .self) .supplied ∙ ap not (by-tag (among twelve) twelve (c .before .before .before .before .args .self) tt (c .match .keys27)))))
