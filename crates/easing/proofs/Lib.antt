@@ -4,3 +4,4 @@ pub mod Ends
 pub mod Finite
 pub mod Starts
 pub mod Tags
+pub mod Unchanged

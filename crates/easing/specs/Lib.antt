@@ -2,3 +2,4 @@ pub mod Kinds
 pub mod Params
 pub mod Apply
 pub mod Ends
+pub mod Values

@@ -1,4 +1,4 @@
--- Tests: what holds of both values of a test holds of what it picks; a conjunction that passes, and one that fails; a test turned round. Assumes nothing.
+-- Tests: what holds of both values of a test holds of what it picks, and a function of both; a conjunction that passes, and one that fails; a test turned round. Assumes nothing.
 use mathlib.Core.Path.{_≡_, refl, sym, _∙_}
 use mathlib.Core.Bool.{Bool, true, false, not, _&&_, cond, false≢true}
 use mathlib.Core.Logic.{_⊎_, inl, inr}
@@ -7,6 +7,11 @@ use borrow.Author.Tests.{not-true, not-false}
 pub by-test : {A : Type 0} (C : A → Type 0) (b : Bool) (x y : A) → (b ≡ true → C x) → (b ≡ false → C y) → C (cond b x y)
 by-test C true x y h k = h refl
 by-test C false x y h k = k refl
+
+-- a function of what a test picks
+pub of-picked : {A B : Type 0} (f : A → B) (b : Bool) (x y : A) (v w : B) → f x ≡ v → f y ≡ w → f (cond b x y) ≡ cond b v w
+of-picked f true x y v w p q = p
+of-picked f false x y v w p q = q
 
 pub and-both : (a b : Bool) → a && b ≡ true → (a ≡ true) × (b ≡ true)
 and-both true b h = (refl, h)

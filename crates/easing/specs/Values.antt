@@ -1,0 +1,26 @@
+-- Document 01's answers without request 1's mark: the values alone, or the refusal.
+use mathlib.Core.Bool.{Bool, cond}
+use mathlib.Core.Logic.{_⊎_, inl, inr}
+use mathlib.Core.Option.{Option, none, some}
+use lib.Ieee.{Float, isNan}
+use Rattle.math.specs.Range.{clamp01Of}
+use Rattle.refusal.specs.declared.Refusal.{Refusal}
+use Rattle.refusal.specs.declared.Refusal.the-variants.{ProgressIsNan, EasingNotSupplied, EasingParameter}
+use Rattle.refusal.specs.Refusing.{unless}
+use Rattle.easing.specs.declared.kinds.Easing.{Easing}
+use Rattle.easing.specs.declared.answers.Eased.{Eased}
+use Rattle.easing.specs.declared.answers.Eased.the-variants.{Value, Refused}
+use Rattle.easing.specs.Kinds.{curveOf}
+use Rattle.easing.specs.Params.{paramsOf, withinOf}
+
+-- what is left of an answer without the search behind it
+abbrev pub valuePart : Eased → Refusal ⊎ Float
+valuePart (Value f) = inr (f .value)
+valuePart (Refused r) = inl r
+
+abbrev pub curveAt : Option (Float → Float) → Bool → Float → Refusal ⊎ Float
+curveAt none fine t = inl EasingNotSupplied
+curveAt (some curve) fine t = unless fine (inl EasingParameter) (inr (curve t))
+
+unfoldable pub applyValue : Easing → Float → Refusal ⊎ Float
+applyValue e t = cond (isNan t) (inl ProgressIsNan) (curveAt (curveOf e) (withinOf (paramsOf e)) (clamp01Of t))
