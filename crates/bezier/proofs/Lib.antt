@@ -3,4 +3,5 @@ mod Bounds
 pub mod Counts
 pub mod Examples
 pub mod Inside
+pub mod Settled
 mod Steps
