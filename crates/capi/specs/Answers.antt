@@ -25,6 +25,7 @@ use Rattle.words.specs.declared.tweens.LaxTween.{LaxTween}
 use Rattle.words.specs.Modes.{stateWord, flagWord}
 use Rattle.words.specs.Tweens.{tweenWords}
 use Rattle.capi.specs.declared.answers.LaxValue.{LaxValue}
+use Rattle.capi.specs.declared.answers.LaxFound.{LaxFound}
 use Rattle.capi.specs.declared.answers.LaxFlag.{LaxFlag}
 use Rattle.capi.specs.declared.answers.LaxSnapshot.{LaxSnapshot}
 use Rattle.capi.specs.declared.answers.LaxChanged.{LaxChanged}
@@ -34,9 +35,12 @@ use Rattle.capi.specs.declared.answers.LaxRun.{LaxRun}
 abbrev pub noValue : ℕ → LaxValue
 noValue n = record { number = n; value = zeroF }
 
-unfoldable pub valueWords : Eased → LaxValue
-valueWords (eased.Value x) = record { number = 0; value = x }
-valueWords (eased.Refused r) = noValue (numberOf r)
+abbrev pub noFound : ℕ → LaxFound
+noFound n = record { number = n; value = zeroF; settled = 0; xs = 0; derivatives = 0 }
+
+unfoldable pub foundWords : Eased → LaxFound
+foundWords (eased.Value f) = record { number = 0; value = f .value; settled = flagWord (f .settled); xs = f .xs; derivatives = f .derivatives }
+foundWords (eased.Refused r) = noFound (numberOf r)
 
 unfoldable pub secondsWords : InSeconds → LaxValue
 secondsWords (seconds.Seconds s) = record { number = 0; value = s .0 }
@@ -92,4 +96,4 @@ outcomeNumber (outcome.Refused r) = numberOf r
 
 -- where no step was taken the tween is the one that came
 unfoldable pub runWords : LaxTween → Run → LaxRun
-runWords w run = record { done = run .done; number = outcomeNumber (run .outcome); tween = cond (eqb (run .done) 0) w (tweenWords (run .tween)) }
+runWords w run = record { done = run .done; unsettled = run .unsettled; number = outcomeNumber (run .outcome); tween = cond (eqb (run .done) 0) w (tweenWords (run .tween)) }

@@ -10,16 +10,16 @@ use Rattle.words.specs.declared.kinds.LaxEasing.{LaxEasing}
 use Rattle.words.specs.declared.kinds.EasingRead.{EasingRead}
 use Rattle.words.specs.declared.kinds.EasingRead.the-variants.{Known, Unknown}
 use Rattle.words.specs.Kinds.{unknownWord, isKind, easingFrom, easingWords}
-use Rattle.capi.specs.declared.answers.LaxValue.{LaxValue}
+use Rattle.capi.specs.declared.answers.LaxFound.{LaxFound}
 use Rattle.capi.specs.declared.answers.LaxFlag.{LaxFlag}
 use Rattle.capi.specs.declared.answers.LaxEasingAnswer.{LaxEasingAnswer}
-use Rattle.capi.specs.Answers.{noValue, valueWords, noFlag, flagWords, equalityWords}
+use Rattle.capi.specs.Answers.{noFound, foundWords, noFlag, flagWords, equalityWords}
 
-abbrev pub applied : EasingRead → Float → LaxValue
-applied (Known e) t = valueWords (applyOf e t)
-applied Unknown t = noValue unknownWord
+abbrev pub applied : EasingRead → Float → LaxFound
+applied (Known e) t = foundWords (applyOf e t)
+applied Unknown t = noFound unknownWord
 
-unfoldable pub laxEasingApply : LaxEasing → Float → LaxValue
+unfoldable pub laxEasingApply : LaxEasing → Float → LaxFound
 laxEasingApply w t = applied (easingFrom w) t
 
 abbrev pub compared : EasingRead → EasingRead → LaxFlag

@@ -7,7 +7,7 @@ use Rattle.frames.specs.Limits.{blank}
 use Rattle.keyframe.specs.declared.types.Track.{Track}
 use Rattle.keyframe.specs.Pushing.{newTrack, pushOf, loopingOf}
 use Rattle.keyframe.specs.Sampling.{valueAtOf, valueNow}
-use Rattle.keyframe.specs.Batch.{batchCount, batchNumber, batchOut}
+use Rattle.keyframe.specs.Batch.{batchCount, batchNumber, batchOut, batchUnsettled}
 use Rattle.keyframe.specs.Playback.{activeTimeOf, durationIn, playbackIn, progressOf, completeOf}
 use Rattle.keyframe.specs.Stepping.{resetOf, seekToOf, updateOf}
 use Rattle.words.specs.declared.kinds.LaxEasing.{LaxEasing}
@@ -21,11 +21,12 @@ use Rattle.words.specs.Kinds.{unknownWord, easingFrom}
 use Rattle.words.specs.Modes.{loopFrom}
 use Rattle.words.specs.Tracks.{knownTrack, trackFrom, frameWords, trackWords}
 use Rattle.capi.specs.declared.answers.LaxValue.{LaxValue}
+use Rattle.capi.specs.declared.answers.LaxFound.{LaxFound}
 use Rattle.capi.specs.declared.answers.LaxFlag.{LaxFlag}
 use Rattle.capi.specs.declared.track_answers.LaxTrackChanged.{LaxTrackChanged}
 use Rattle.capi.specs.declared.track_answers.LaxTrackUpdated.{LaxTrackUpdated}
 use Rattle.capi.specs.declared.track_answers.LaxFilled.{LaxFilled}
-use Rattle.capi.specs.Answers.{noValue, valueWords, secondsWords, progressWords, noFlag}
+use Rattle.capi.specs.Answers.{noValue, noFound, foundWords, secondsWords, progressWords, noFlag}
 use Rattle.capi.specs.TrackAnswers.{untouched, trackChangedWords, notStepped, trackUpdatedWords, completionWords}
 
 -- the answer for a track that was read, or the one for words that are none
@@ -50,11 +51,11 @@ looped w mode.Unknown t = untouched w unknownWord
 unfoldable pub laxTrackLooping : LaxTrack → LaxLoop → LaxTrackChanged
 laxTrackLooping w m = onTrack w (looped w (loopFrom m)) (untouched w unknownWord)
 
-unfoldable pub laxTrackValueAt : LaxTrack → Float → LaxValue
-laxTrackValueAt w secs = onTrack w (λ t. valueWords (valueAtOf t secs)) (noValue unknownWord)
+unfoldable pub laxTrackValueAt : LaxTrack → Float → LaxFound
+laxTrackValueAt w secs = onTrack w (λ t. foundWords (valueAtOf t secs)) (noFound unknownWord)
 
-unfoldable pub laxTrackValue : LaxTrack → LaxValue
-laxTrackValue w = onTrack w (λ t. valueWords (valueNow t)) (noValue unknownWord)
+unfoldable pub laxTrackValue : LaxTrack → LaxFound
+laxTrackValue w = onTrack w (λ t. foundWords (valueNow t)) (noFound unknownWord)
 
 unfoldable pub laxTrackActiveTime : LaxTrack → LaxValue
 laxTrackActiveTime w = onTrack w (λ t. secondsWords (activeTimeOf t)) (noValue unknownWord)
@@ -82,7 +83,7 @@ laxTrackUpdate w step = onTrack w (λ t. trackUpdatedWords w (updateOf t step)) 
 
 -- many times at once, and the lent output afterwards
 unfoldable pub laxTrackFilled : LaxTrack → List Float → List Float → LaxFilled
-laxTrackFilled w times out = onTrack w (λ t. record { filled = batchCount t times out; number = batchNumber t times out }) (record { filled = 0; number = unknownWord })
+laxTrackFilled w times out = onTrack w (λ t. record { filled = batchCount t times out; unsettled = batchUnsettled t times out; number = batchNumber t times out }) (record { filled = 0; unsettled = 0; number = unknownWord })
 
 unfoldable pub laxTrackOut : LaxTrack → List Float → List Float → List Float
 laxTrackOut w times out = onTrack w (λ t. batchOut t times out) out

@@ -12,25 +12,26 @@ use Rattle.words.specs.declared.tweens.TweenRead.the-variants.{Known, Unknown}
 use Rattle.words.specs.Kinds.{unknownWord}
 use Rattle.words.specs.Tweens.{tweenFrom}
 use Rattle.capi.specs.declared.answers.LaxValue.{LaxValue}
+use Rattle.capi.specs.declared.answers.LaxFound.{LaxFound}
 use Rattle.capi.specs.declared.answers.LaxSnapshot.{LaxSnapshot}
 use Rattle.capi.specs.declared.answers.LaxChanged.{LaxChanged}
 use Rattle.capi.specs.declared.answers.LaxUpdated.{LaxUpdated}
 use Rattle.capi.specs.declared.answers.LaxRun.{LaxRun}
-use Rattle.capi.specs.Answers.{noValue, valueWords, secondsWords, progressWords, noSnapshot, snapshotWords, unchanged, changedWords, notUpdated, updatedWords, runWords}
+use Rattle.capi.specs.Answers.{noValue, noFound, foundWords, secondsWords, progressWords, noSnapshot, snapshotWords, unchanged, changedWords, notUpdated, updatedWords, runWords}
 
 -- the answer for a tween that was read, or the one for words that are none
 abbrev pub onTween : {A : Type 0} → TweenRead → (Tween → A) → A → A
 onTween (Known t) known unknown = known t
 onTween Unknown known unknown = unknown
 
-unfoldable pub laxTweenValue : LaxTween → LaxValue
-laxTweenValue w = onTween (tweenFrom w) (λ t. valueWords (valueOf t)) (noValue unknownWord)
+unfoldable pub laxTweenValue : LaxTween → LaxFound
+laxTweenValue w = onTween (tweenFrom w) (λ t. foundWords (valueOf t)) (noFound unknownWord)
 
 unfoldable pub laxTweenProgress : LaxTween → LaxValue
 laxTweenProgress w = onTween (tweenFrom w) (λ t. progressWords (progressOf t)) (noValue unknownWord)
 
-unfoldable pub laxTweenEasedProgress : LaxTween → LaxValue
-laxTweenEasedProgress w = onTween (tweenFrom w) (λ t. valueWords (easedProgressOf t)) (noValue unknownWord)
+unfoldable pub laxTweenEasedProgress : LaxTween → LaxFound
+laxTweenEasedProgress w = onTween (tweenFrom w) (λ t. foundWords (easedProgressOf t)) (noFound unknownWord)
 
 unfoldable pub laxTweenSnapshot : LaxTween → LaxSnapshot
 laxTweenSnapshot w = onTween (tweenFrom w) (λ t. snapshotWords (snapshotOf t)) (noSnapshot unknownWord)
@@ -58,7 +59,7 @@ laxTweenUpdate w step = onTween (tweenFrom w) (λ t. updatedWords w (updateOf t 
 
 -- a run of steps, and its two lent lists afterwards
 unfoldable pub laxTweenRun : LaxTween → List Float → List Float → List ℕ → LaxRun
-laxTweenRun w steps values folds = onTween (tweenFrom w) (λ t. runWords w (answerOf (runOf t steps values folds))) (record { done = 0; number = unknownWord; tween = w })
+laxTweenRun w steps values folds = onTween (tweenFrom w) (λ t. runWords w (answerOf (runOf t steps values folds))) (record { done = 0; unsettled = 0; number = unknownWord; tween = w })
 
 unfoldable pub laxRunValues : LaxTween → List Float → List Float → List ℕ → List Float
 laxRunValues w steps values folds = onTween (tweenFrom w) (λ t. over (runOf t steps values folds .values) values) values

@@ -1,7 +1,7 @@
 // What the exported functions answer. Where number is not 0 the rest is 0, but for a tween, which is
 // then the one that came.
 ghost use mathlib.Core.Path.{_≡_};
-ghost use Rattle.capi.specs.Answers.{valueWords, flagWords, noValue, noFlag, equalityWords, secondsWords, progressWords, snapshotWords, noSnapshot, unchanged, changedWords, notUpdated, updatedWords, outcomeNumber, runWords};
+ghost use Rattle.capi.specs.Answers.{foundWords, flagWords, noFound, noValue, noFlag, equalityWords, secondsWords, progressWords, snapshotWords, noSnapshot, unchanged, changedWords, notUpdated, updatedWords, outcomeNumber, runWords};
 use easing::Eased;
 use easing::Equality;
 use steps::Outcome;
@@ -21,6 +21,16 @@ use words::tween_words;
 pub struct LaxValue {
     pub number: u32,
     pub value: f32,
+}
+
+// settled is 0 or 1. xs and derivatives are how many the search evaluated.
+#[repr(C)]
+pub struct LaxFound {
+    pub number: u32,
+    pub value: f32,
+    pub settled: u32,
+    pub xs: u32,
+    pub derivatives: u32,
 }
 
 #[repr(C)]
@@ -59,10 +69,12 @@ pub struct LaxUpdated {
     pub tween: LaxTween,
 }
 
-// done is how many steps were taken; where that is 0 the tween is the one that came.
+// done is how many steps were taken; where that is 0 the tween is the one that came. unsettled is
+// how many of the values written were not settled.
 #[repr(C)]
 pub struct LaxRun {
     pub done: usize,
+    pub unsettled: usize,
     pub number: u32,
     pub tween: LaxTween,
 }
@@ -88,12 +100,30 @@ pub fn flag_words(b: bool) -> LaxFlag
     }
 }
 
-pub fn value_words(a: Eased) -> LaxValue
-    ensures { λ r. ⌜ r ≡ valueWords a ⌝ }
+pub fn no_found(number: u32) -> LaxFound
+    ensures { λ r. ⌜ r ≡ noFound number ⌝ }
+{
+    LaxFound {
+        number,
+        value: 0.0,
+        settled: 0,
+        xs: 0,
+        derivatives: 0,
+    }
+}
+
+pub fn found_words(a: Eased) -> LaxFound
+    ensures { λ r. ⌜ r ≡ foundWords a ⌝ }
 {
     match a {
-        Eased::Value(value) => LaxValue { number: 0, value },
-        Eased::Refused(refusal) => no_value(refusal.number()),
+        Eased::Value(found) => LaxFound {
+            number: 0,
+            value: found.value,
+            settled: flag_word(found.settled),
+            xs: found.xs,
+            derivatives: found.derivatives,
+        },
+        Eased::Refused(refusal) => no_found(refusal.number()),
     }
 }
 
@@ -227,6 +257,7 @@ pub fn run_words(w: LaxTween, run: Run) -> LaxRun
     if run.done == 0 {
         return LaxRun {
             done: 0,
+            unsettled: run.unsettled,
             number,
             tween: w,
         };
@@ -234,6 +265,7 @@ pub fn run_words(w: LaxTween, run: Run) -> LaxRun
     let tween = run.tween;
     LaxRun {
         done: run.done,
+        unsettled: run.unsettled,
         number,
         tween: tween_words(tween),
     }

@@ -3,12 +3,12 @@ ghost use mathlib.Core.Path.{_≡_};
 ghost use Rattle.capi.specs.Easings.{laxEasingApply, laxEasingEq, laxEasingIsSupplied, laxEasingNamed};
 use crate::answers::LaxEasingAnswer;
 use crate::answers::LaxFlag;
-use crate::answers::LaxValue;
+use crate::answers::LaxFound;
 use crate::answers::equality_words;
 use crate::answers::flag_words;
 use crate::answers::no_flag;
-use crate::answers::no_value;
-use crate::answers::value_words;
+use crate::answers::no_found;
+use crate::answers::found_words;
 use easing::Easing;
 use units::Progress;
 use words::EasingRead;
@@ -18,12 +18,12 @@ use words::easing_of;
 use words::easing_words;
 
 #[no_mangle]
-pub extern "C" fn lax_easing_apply(e: LaxEasing, t: f32) -> LaxValue
+pub extern "C" fn lax_easing_apply(e: LaxEasing, t: f32) -> LaxFound
     ensures { λ r. ⌜ r ≡ laxEasingApply e t ⌝ }
 {
     match easing_of(e) {
-        EasingRead::Known(easing) => value_words(easing.apply(Progress(t))),
-        EasingRead::Unknown => no_value(UNKNOWN_WORD),
+        EasingRead::Known(easing) => found_words(easing.apply(Progress(t))),
+        EasingRead::Unknown => no_found(UNKNOWN_WORD),
     }
 }
 

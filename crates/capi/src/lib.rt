@@ -12,6 +12,7 @@ pub use answers::LaxFlag;
 pub use answers::LaxRun;
 pub use answers::LaxSnapshot;
 pub use answers::LaxUpdated;
+pub use answers::LaxFound;
 pub use answers::LaxValue;
 pub use track_answers::LaxFilled;
 pub use track_answers::LaxTrackChanged;

@@ -26,10 +26,12 @@ pub struct LaxTrackUpdated {
     pub track: LaxTrack,
 }
 
-// filled is how many places at the front of the lent output were written.
+// filled is how many places at the front of the lent output were written; unsettled, how many of
+// them hold a value that was not settled.
 #[repr(C)]
 pub struct LaxFilled {
     pub filled: usize,
+    pub unsettled: usize,
     pub number: u32,
 }
 

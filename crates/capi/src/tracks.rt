@@ -4,12 +4,14 @@ ghost use Rattle.capi.specs.Tracks.{laxTrackNew, laxTrackPush, laxTrackL
 ghost use Rattle.words.specs.Kinds.{easingWords};
 ghost use Rattle.easing.specs.declared.kinds.Easing.the-variants.{Linear};
 use crate::answers::LaxFlag;
+use crate::answers::LaxFound;
 use crate::answers::LaxValue;
 use crate::answers::no_flag;
+use crate::answers::no_found;
 use crate::answers::no_value;
 use crate::answers::progress_words;
 use crate::answers::seconds_words;
-use crate::answers::value_words;
+use crate::answers::found_words;
 use crate::track_answers::LaxFilled;
 use crate::track_answers::LaxTrackChanged;
 use crate::track_answers::LaxTrackUpdated;
@@ -86,26 +88,26 @@ pub extern "C" fn lax_track_looping(w: LaxTrack, mode: LaxLoop) -> LaxTrackChang
 }
 
 #[no_mangle]
-pub extern "C" fn lax_track_value_at(w: LaxTrack, secs: f32) -> LaxValue
+pub extern "C" fn lax_track_value_at(w: LaxTrack, secs: f32) -> LaxFound
     ensures { λ r. ⌜ r ≡ laxTrackValueAt w secs ⌝ }
 {
-    if let Quick::Value(v) = quick_value_at(w, secs) {
-        return value_words(Eased::Value(v));
+    if let Quick::Value(found) = quick_value_at(w, secs) {
+        return found_words(Eased::Value(found));
     }
     if is_known(w) {
-        return value_words(track_of(w).value_at(Seconds(secs)));
+        return found_words(track_of(w).value_at(Seconds(secs)));
     }
-    no_value(UNKNOWN_WORD)
+    no_found(UNKNOWN_WORD)
 }
 
 #[no_mangle]
-pub extern "C" fn lax_track_value(w: LaxTrack) -> LaxValue
+pub extern "C" fn lax_track_value(w: LaxTrack) -> LaxFound
     ensures { λ r. ⌜ r ≡ laxTrackValue w ⌝ }
 {
     if is_known(w) {
-        return value_words(track_of(w).value());
+        return found_words(track_of(w).value());
     }
-    no_value(UNKNOWN_WORD)
+    no_found(UNKNOWN_WORD)
 }
 
 #[no_mangle]
@@ -196,11 +198,17 @@ pub extern "C" fn lax_track_values_at(w: LaxTrack, times: &[f32], out: &mut [f32
 {
     if is_known(w) {
         let mut number: u32 = 0;
-        let filled = track_of(w).fill_values(times, out, &mut number);
-        return LaxFilled { filled, number };
+        let mut unsettled: usize = 0;
+        let filled = track_of(w).fill_values(times, out, &mut number, &mut unsettled);
+        return LaxFilled {
+            filled,
+            unsettled,
+            number,
+        };
     }
     LaxFilled {
         filled: 0,
+        unsettled: 0,
         number: UNKNOWN_WORD,
     }
 }

@@ -7,9 +7,11 @@ use crate::answers::LaxChanged;
 use crate::answers::LaxRun;
 use crate::answers::LaxSnapshot;
 use crate::answers::LaxUpdated;
+use crate::answers::LaxFound;
 use crate::answers::LaxValue;
 use crate::answers::changed_words;
 use crate::answers::no_snapshot;
+use crate::answers::no_found;
 use crate::answers::no_value;
 use crate::answers::not_updated;
 use crate::answers::progress_words;
@@ -18,7 +20,7 @@ use crate::answers::seconds_words;
 use crate::answers::snapshot_words;
 use crate::answers::unchanged;
 use crate::answers::updated_words;
-use crate::answers::value_words;
+use crate::answers::found_words;
 use steps::run_steps;
 use tween::Tween;
 use units::Progress;
@@ -36,12 +38,12 @@ pub extern "C" fn lax_tween_new(start: f32, end: f32) -> LaxTween
 }
 
 #[no_mangle]
-pub extern "C" fn lax_tween_value(w: LaxTween) -> LaxValue
+pub extern "C" fn lax_tween_value(w: LaxTween) -> LaxFound
     ensures { λ r. ⌜ r ≡ laxTweenValue w ⌝ }
 {
     match tween_of(w) {
-        TweenRead::Known(t) => value_words(t.value()),
-        TweenRead::Unknown => no_value(UNKNOWN_WORD),
+        TweenRead::Known(t) => found_words(t.value()),
+        TweenRead::Unknown => no_found(UNKNOWN_WORD),
     }
 }
 
@@ -56,12 +58,12 @@ pub extern "C" fn lax_tween_progress(w: LaxTween) -> LaxValue
 }
 
 #[no_mangle]
-pub extern "C" fn lax_tween_eased_progress(w: LaxTween) -> LaxValue
+pub extern "C" fn lax_tween_eased_progress(w: LaxTween) -> LaxFound
     ensures { λ r. ⌜ r ≡ laxTweenEasedProgress w ⌝ }
 {
     match tween_of(w) {
-        TweenRead::Known(t) => value_words(t.eased_progress()),
-        TweenRead::Unknown => no_value(UNKNOWN_WORD),
+        TweenRead::Known(t) => found_words(t.eased_progress()),
+        TweenRead::Unknown => no_found(UNKNOWN_WORD),
     }
 }
 

@@ -97,7 +97,13 @@ fn values_at(t: Track, words: [u32; 1024]) -> Row {
     let times = floats_at(words, 2);
     let mut values = marks();
     let mut number: u32 = 0;
-    let filled = t.fill_values(&times[..length], &mut values[..room], &mut number);
+    let mut unsettled: usize = 0;
+    let filled = t.fill_values(
+        &times[..length],
+        &mut values[..room],
+        &mut number,
+        &mut unsettled,
+    );
     let p = put(put(nothing(), number), count_word(filled));
     put_floats(p, values, room)
 }

@@ -36,7 +36,7 @@ abbrev pub floatWords : Float → List ℕ
 floatWords x = 0 ∷ wordOf x ∷ []
 
 abbrev pub valueWords : Eased → List ℕ
-valueWords (eased.Value x) = floatWords x
+valueWords (eased.Value f) = floatWords (f .value)
 valueWords (eased.Refused refusal) = refusedWords refusal
 
 abbrev pub secondsWords : InSeconds → List ℕ

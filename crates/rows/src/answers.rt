@@ -57,7 +57,7 @@ pub fn value_row(a: Eased) -> Row
     ensures { λ r. ⌜ r ≡ rowOf (valueWords a) ⌝ }
 {
     match a {
-        Eased::Value(x) => float_row(x),
+        Eased::Value(found) => float_row(found.value),
         Eased::Refused(refusal) => refused(refusal),
     }
 }

@@ -11,11 +11,12 @@ use crate::modes::LaxLoop;
 use crate::tracks::LaxKeyframe;
 use crate::tracks::LaxTrack;
 use crate::tracks::mode_of;
+use bezier::Found;
 use easing::Easing;
 
 // Unsure: a word is not known, or the call is to be refused.
 pub enum Quick {
-    Value(f32),
+    Value(Found),
     Unsure,
 }
 
@@ -39,7 +40,7 @@ fn easing_fits(w: LaxEasing) -> bool
     }
 }
 
-fn eased(w: LaxEasing, p: f32) -> f32
+fn eased(w: LaxEasing, p: f32) -> Found
     ensures { λ r. ⌜ r ≡ easedOf (easingIn (easingFrom w)) p ⌝ }
 {
     match easing_of(w) {
@@ -48,12 +49,13 @@ fn eased(w: LaxEasing, p: f32) -> f32
     }
 }
 
-fn between(k: LaxKeyframe, l: LaxKeyframe, t: f32) -> f32
+fn between(k: LaxKeyframe, l: LaxKeyframe, t: f32) -> Found
     ensures { λ r. ⌜ r ≡ betweenOf (frameFrom k) (frameFrom l) t ⌝ }
 {
     let p = frames::along(k.time, l.time, t);
     let e = k.easing;
-    math::blend(k.value, l.value, eased(e, p))
+    let found = eased(e, p);
+    found.with_value(math::blend(k.value, l.value, found.value))
 }
 
 fn clock_fits(elapsed: f32, looping: LaxLoop, base: f32) -> bool
@@ -94,10 +96,10 @@ pub fn quick_value_at(w: LaxTrack, secs: f32) -> Quick
         }
     }
     if t <= first.time {
-        return Quick::Value(first.value);
+        return Quick::Value(Found::plain(first.value));
     }
     if last.time <= t {
-        return Quick::Value(last.value);
+        return Quick::Value(Found::plain(last.value));
     }
     Quick::Value(between(w.frames[low], w.frames[low + 1], t))
 }

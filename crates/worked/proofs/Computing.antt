@@ -5,7 +5,7 @@ use Rattle.bezier.specs.Curve.{sampleCubicOf}
 use Rattle.bezier.specs.Search.{turnOf, newtonOf}
 use Rattle.easing.specs.Kinds.{suppliedOf}
 use Rattle.easing.specs.Params.{paramsOf, withinOf as paramsWithin}
-use Rattle.easing.specs.Apply.{applyOf, fitsRecordOf}
+use Rattle.easing.specs.Apply.{searchOf, applyOf, fitsRecordOf}
 use Rattle.loop_mode.specs.Passes.{withinOf as modeWithin}
 use Rattle.tween.specs.Limits.{settingsWithin, clockWithin, withinOf as tweenWithin}
 use Rattle.tween.specs.Calls.{valueOf, resetOf}
@@ -20,7 +20,7 @@ use Rattle.keyframe.specs.Sampling.{valueAtOf}
 use Rattle.keyframe.specs.Stepping.{finalOf, advanceOf, updateOf as trackUpdate}
 
 unfoldable pub easings : Unit {0}
-unfolding cubicBezier foundOf newtonOf turnOf sampleCubicOf suppliedOf paramsOf paramsWithin applyOf fitsRecordOf sub mul div le isNan ofInt ofBits toUnsigned
+unfolding cubicBezier foundOf newtonOf turnOf sampleCubicOf suppliedOf paramsOf paramsWithin searchOf applyOf fitsRecordOf sub mul div le isNan ofInt ofBits toUnsigned
 easings = tt
 
 unfoldable pub tweens : Unit {0}

@@ -3,14 +3,15 @@ use Prim.Native.Nat.{ℕ}
 use mathlib.Core.Path.{_≡_}
 use mathlib.Core.Bool.{true, false}
 use mathlib.Core.List.{List, [], _∷_}
+use mathlib.Core.Logic.{inr}
 use lib.Ieee.{Float, binary32, round}
 use Rattle.math.specs.Rounded.{oneF, zeroF}
 use Rattle.refusal.specs.Number.{numberOf}
 use Rattle.curves.specs.Stairs.{jumpEndOf}
 use Rattle.easing.specs.declared.kinds.Easing.{Easing}
 use Rattle.easing.specs.declared.kinds.Easing.the-variants.{Linear}
-use Rattle.easing.specs.declared.answers.Eased.the-variants.{Value}
 use Rattle.easing.specs.Apply.{applyOf}
+use Rattle.easing.specs.Values.{valuePart}
 use Rattle.loop_mode.specs.declared.Loop.{Loop}
 use Rattle.tween.specs.declared.record.Tween.{Tween}
 use Rattle.tween.specs.declared.record.TweenState.{TweenState}
@@ -76,7 +77,7 @@ Tells t k (folds n) = k ≡ n
 Tells t k (elapsed n) = t .elapsed ≡ whole n
 Tells t k (state s) = t .state ≡ s
 Tells t k reversed = t .«ping_pong_reverse» ≡ true
-Tells t k (value n) = valueOf t ≡ Value (whole n)
+Tells t k (value n) = valuePart (valueOf t) ≡ inr (whole n)
 
 abbrev pub TellsAll : Tween → ℕ → List Said → Type 0
 TellsAll t k [] = Unit {0}
@@ -106,7 +107,7 @@ FromReset steps (changed.Done t) = Chain steps t
 FromReset steps (changed.Refused t r) = ⊥
 
 abbrev pub Holds : Row → Type 0
-Holds (eases e t v) = applyOf e t ≡ Value v
+Holds (eases e t v) = valuePart (applyOf e t) ≡ inr v
 Holds (jumps n t v) = jumpEndOf t n ≡ v
 Holds (runs t steps) = FromReset steps (resetOf t)
 

@@ -13,7 +13,7 @@ pub fn gives(track: Track, secs: f32, expected: f32) -> bool
     ensures { λ r. ⌜ r ≡ equals (valueAtOf track secs) expected ⌝ }
 {
     match track.value_at(Seconds(secs)) {
-        Eased::Value(v) => v == expected,
+        Eased::Value(found) => found.value == expected,
         Eased::Refused(_) => false,
     }
 }

@@ -15,5 +15,5 @@ lax-easing-apply-spec =
     (λ c κs. search needs)
     (λ c. search needs)
     (λ c κs. search needs)
-    (λ c. simp (← (c .before .before .before .before .before .easing-of .ensures), c .before .before .before .easing .given .1, c .value-words .ensures, c .before .apply .ensures))
-    (λ c. simp (← (c .before .before .before .easing-of .ensures), c .before .enum-told .given .1, c .no-value .ensures)))
+    (λ c. simp (← (c .before .before .before .before .before .easing-of .ensures), c .before .before .before .easing .given .1, c .found-words .ensures, c .before .apply .ensures))
+    (λ c. simp (← (c .before .before .before .easing-of .ensures), c .before .enum-told .given .1, c .no-found .ensures)))

@@ -13,6 +13,6 @@ lax-track-value-spec =
     (λ c κs. search needs)
     (λ c κs. search needs)
     (λ c κs. search needs)
-    (λ c. simp (← (c .before .before .before .before .is-known .ensures), c .before .before .before .if1 .taken, c .value-words .ensures, c .before .value .ensures, c .before .before .track-of .ensures))
+    (λ c. simp (← (c .before .before .before .before .is-known .ensures), c .before .before .before .if1 .taken, c .found-words .ensures, c .before .value .ensures, c .before .before .track-of .ensures))
     (λ c κs. search needs)
-    (λ c. simp (← (c .before .before .is-known .ensures), c .before .if1 .left, c .no-value .ensures)))
+    (λ c. simp (← (c .before .before .is-known .ensures), c .before .if1 .left, c .no-found .ensures)))

@@ -15,13 +15,13 @@ lax-track-value-at-spec =
     (λ c. search needs)
     (λ c κs. search needs)
     (λ c.
-    let q = quick-says _ _ _ (sym (c .before .before .before .before .quick-value-at .ensures) ∙ c .before .before .v .given .1) in
-    rw (c .value-words .ensures, q .0, q .1))
+    let q = quick-says _ _ _ (sym (c .before .before .before .before .quick-value-at .ensures) ∙ c .before .before .found .given .1) in
+    rw (c .found-words .ensures, q .0, q .1))
     (λ c. search needs)
     (λ c κs. search needs)
     (λ c κs. search needs)
     (λ c κs. search needs)
     (λ c κs. search needs)
-    (λ c. simp (← (c .before .before .before .before .is-known .ensures), c .before .before .before .if1 .taken, c .value-words2 .ensures, c .before .value-at .ensures, c .before .before .track-of .ensures))
+    (λ c. simp (← (c .before .before .before .before .is-known .ensures), c .before .before .before .if1 .taken, c .found-words2 .ensures, c .before .value-at .ensures, c .before .before .track-of .ensures))
     (λ c κs. search needs)
-    (λ c. simp (← (c .before .before .is-known .ensures), c .before .if1 .left, c .no-value .ensures)))
+    (λ c. simp (← (c .before .before .is-known .ensures), c .before .if1 .left, c .no-found .ensures)))

@@ -15,5 +15,5 @@ lax-tween-value-spec =
     (λ c κs. search needs)
     (λ c. search needs)
     (λ c κs. search needs)
-    (λ c. simp (← (c .before .before .before .before .before .tween-of .ensures), c .before .before .before .t .given .1, c .value-words .ensures, c .before .value .ensures))
-    (λ c. simp (← (c .before .before .before .tween-of .ensures), c .before .enum-told .given .1, c .no-value .ensures)))
+    (λ c. simp (← (c .before .before .before .before .before .tween-of .ensures), c .before .before .before .t .given .1, c .found-words .ensures, c .before .value .ensures))
+    (λ c. simp (← (c .before .before .before .tween-of .ensures), c .before .enum-told .given .1, c .no-found .ensures)))
