@@ -36,7 +36,7 @@ taken (updated.Refused u r) = Stops r
 unfoldable pub stepOf : Tween → Float → Taken
 stepOf t x = taken (updateOf t x)
 
--- what a run comes to: the tween, the value and the folds of each step that was taken, how many of the values did not settle, and how it ended
+-- what a run comes to: the tween, the value and the folds of each step that was taken, how many of the values are not settled, and how it ended. Request 1: "Values don't change": a value is what was found, without the search behind it
 pub record Course : Type 0 where
   pub tween : Tween
   pub values : List Float
@@ -52,7 +52,7 @@ ended t o = record { tween = t; values = []; folds = []; unsettled = 0; outcome 
 abbrev pub stopped : Tween → Refusal → Course
 stopped t r = ended t (Refused r)
 
--- Request 1: "how many of its samples weren't" settled, one value and those behind it
+-- Request 1, for a run as for a batch: "how many of its samples weren't" settled. n is how many behind this one are not
 abbrev pub counting : Found → ℕ → ℕ
 counting f n = cond (f .settled) n (suc n)
 

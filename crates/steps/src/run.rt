@@ -20,7 +20,7 @@ pub enum Outcome {
 }
 
 // done is how many steps were taken: where the run stopped, the place of the step that was refused. The
-// tween is as it stood before that step. unsettled is how many of the values written did not settle.
+// tween is as it stood before that step. unsettled is how many of the values written are not settled.
 pub struct Run {
     pub tween: Tween,
     pub done: usize,

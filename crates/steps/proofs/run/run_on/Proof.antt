@@ -51,8 +51,8 @@ run-on-spec =
     (λ c. search needs)
     (λ c. omega (arith, c .before .before .before .before .before .before .before .before .before .before .loop .inv .folds-long, c .before .before .before .before .before .before .before .before .before .before .before .before .before .before .pre .2))
     (λ c. search needs)
-    (λ c. let s = c .before .before .before .before .before .before .before .before .before .before .before in omega (arith, few-more (c .before .before .tween .given .0 .1 .0 .settled) _ _ (s .loop .inv .few-unsettled), c .before .before .before .before .before .before .before .before .before .before .loop-test .taken, s .before .before .before .before .good .1 .0 .0))
-    (λ c. omega (arith, c .before .before .before .before .before .before .before .before .before .before .loop-test .taken, c .before .before .before .before .before .before .before .before .before .before .before .before .before .before .before .good .1 .0 .0))
+    (λ c. let s = c .before .before .before .before .before .before .before .before .before .before .before in omega (arith, few-more (c .before .before .tween .given .0 .1 .0 .settled) _ _ (s .loop .inv .few-unsettled), s .before .before .before .before .good .1 .0))
+    (λ c. omega (arith, c .before .before .before .before .before .before .before .before .before .before .before .before .before .before .before .good .1 .0))
     (λ c. search needs)
     (λ c.
     let s = c .before .before .before .before .before .before .before .before .before .before .before in
