@@ -1,14 +1,17 @@
 -- How a run stands after its first i steps, and how it goes on and ends from there. Assumes nothing.
 use Prim.Native.Nat.{ℕ, suc, _+_, _<_, _≤_}
 use mathlib.Core.Path.{_≡_, refl, ap, _∙_}
-use mathlib.Core.Bool.{true, false}
+use mathlib.Core.Bool.{Bool, true, false, not, cond}
 use mathlib.Core.List.{List, [], _∷_, _++_, append-assoc, append-nil}
+use native.Mathlib.Nat.{add-zero, zero-add}
 use native.Mathlib.Numerals.{add-one}
 use native.Mathlib.Omega.{arith}
 use borrow.Author.Tests.{le-leb, lt-leb}
 use lib.ListN.{length, drop, getD, set, length-append, length-set}
 use lib.Seq.{drop-cons, drop-length, set-at}
 use lib.Ieee.{Float, nan}
+use mir.Val.{boolByte}
+use Rattle.bezier.specs.declared.types.Found.{Found}
 use Rattle.refusal.specs.declared.Refusal.{Refusal}
 use Rattle.refusal.specs.declared.Refusal.the-variants.{RecordBreaksLimit, OutputTooShort}
 use Rattle.tween.specs.declared.record.Tween.{Tween}
@@ -18,9 +21,19 @@ use Rattle.steps.specs.declared.run.Outcome.{Outcome}
 use Rattle.steps.specs.declared.run.Outcome.the-variants.{Finished, Refused}
 use Rattle.steps.specs.Course.{stepOf, Course, ended, stopped, courseOf, runOf, answerOf, over}
 
--- values and folds that come before those of a course
-abbrev behind : List Float → List ℕ → Course → Course
-behind vs fs c = record { tween = c .tween; values = vs ++ c .values; folds = fs ++ c .folds; outcome = c .outcome }
+-- values, folds and a count that come before those of a course
+abbrev behind : List Float → List ℕ → ℕ → Course → Course
+behind vs fs n c = record { tween = c .tween; values = vs ++ c .values; folds = fs ++ c .folds; unsettled = n + c .unsettled; outcome = c .outcome }
+
+-- a value adds at most 1 to the count
+pub few-more : (settled : Bool) (n i : ℕ) → n ≤ i → n + boolByte (not settled) ≤ i + 1
+few-more true n i h = omega arith
+few-more false n i h = omega arith
+
+-- one value counted on the way, or with those behind it
+one-more : (settled : Bool) (n m : ℕ) → n + cond settled m (suc m) ≡ n + boolByte (not settled) + m
+one-more true n m = omega arith
+one-more false n m = omega arith
 
 -- a front of i places is written, and behind it a list is as it was
 abbrev Written : {A : Type 0} → List A → ℕ → List A → List A → Type 0
@@ -33,50 +46,64 @@ more {A} d front i l was x h (n, e) = (
   rw (e, add-one, append-assoc, drop-cons was i d h) (set-at front (getD was i d) (drop (suc i) was) x i n),
 )
 
-pub record Reached (steps values₀ : List Float) (folds₀ : List ℕ) (t₀ : Tween) (values : List Float) (folds : List ℕ) (t : Tween) (i : ℕ) : Type 0 where
+pub record Reached (steps values₀ : List Float) (folds₀ : List ℕ) (t₀ : Tween) (values : List Float) (folds : List ℕ) (t : Tween) (n i : ℕ) : Type 0 where
   pub front : List Float
   pub counts : List ℕ
   pub values-are : Written front i values values₀
   pub folds-are : Written counts i folds folds₀
-  pub course-is : courseOf steps t₀ ≡ behind front counts (courseOf (drop i steps) t)
+  pub course-is : courseOf steps t₀ ≡ behind front counts n (courseOf (drop i steps) t)
   pub values-long : length values ≡ length values₀
   pub folds-long : length folds ≡ length folds₀
   pub within : withinOf t ≡ true
   pub few : i ≤ length steps
+  pub few-unsettled : n ≤ i
 
 module _ (steps values₀ : List Float) (folds₀ : List ℕ) (t₀ : Tween) where
-  pub begins : withinOf t₀ ≡ true → Reached steps values₀ folds₀ t₀ values₀ folds₀ t₀ 0
-  begins h = record { front = []; counts = []; values-are = (refl, refl); folds-are = (refl, refl); course-is = refl; values-long = refl; folds-long = refl; within = h; few = omega arith }
+  pub begins : withinOf t₀ ≡ true → Reached steps values₀ folds₀ t₀ values₀ folds₀ t₀ 0 0
+  begins h =
+      record {
+        front = [];
+        counts = [];
+        values-are = (refl, refl);
+        folds-are = (refl, refl);
+        course-is = rw (zero-add (courseOf steps t₀ .unsettled)) refl;
+        values-long = refl;
+        folds-long = refl;
+        within = h;
+        few = omega arith;
+        few-unsettled = omega arith;
+      }
 
-  module _ (room : length steps ≤ length values₀) (place : length steps ≤ length folds₀) (values : List Float) (folds : List ℕ) (t : Tween) (i : ℕ) (s : Reached steps values₀ folds₀ t₀ values folds t i) where
-    pub goes-on : (u : Tween) (v : Float) (k : ℕ) → i < length steps → stepOf t (getD steps i nan) ≡ Took u v k → withinOf u ≡ true
-        → Reached steps values₀ folds₀ t₀ (set values i v) (set folds i k) u (i + 1)
+  module _ (room : length steps ≤ length values₀) (place : length steps ≤ length folds₀) (values : List Float) (folds : List ℕ) (t : Tween) (n i : ℕ) (s : Reached steps values₀ folds₀ t₀ values folds t n i) where
+    pub goes-on : (u : Tween) (f : Found) (k : ℕ) → i < length steps → stepOf t (getD steps i nan) ≡ Took u f k → withinOf u ≡ true
+        → Reached steps values₀ folds₀ t₀ (set values i (f .value)) (set folds i k) u (n + boolByte (not (f .settled))) (i + 1)
     unfolding courseOf
-    goes-on u v k h e w =
+    goes-on u f k h e w =
         record {
-          front = s .front ++ (v ∷ []);
+          front = s .front ++ (f .value ∷ []);
           counts = s .counts ++ (k ∷ []);
-          values-are = more nan (s .front) i values values₀ v (omega arith) (s .values-are);
+          values-are = more nan (s .front) i values values₀ (f .value) (omega arith) (s .values-are);
           folds-are = more 0 (s .counts) i folds folds₀ k (omega arith) (s .folds-are);
-          course-is = s .course-is ∙ (rw (drop-cons steps i nan h, e, add-one, append-assoc, append-assoc));
-          values-long = length-set values i v ∙ s .values-long;
+          course-is = s .course-is ∙ (rw (drop-cons steps i nan h, e, add-one, append-assoc, append-assoc, one-more (f .settled)));
+          values-long = length-set values i (f .value) ∙ s .values-long;
           folds-long = length-set folds i k ∙ s .folds-long;
           within = w;
           few = omega arith;
+          few-unsettled = few-more (f .settled) n i (s .few-unsettled);
         }
 
     -- the run ends here
     ends : (o : Outcome) → courseOf (drop i steps) t ≡ ended t o
-        → (record { tween = t; done = i; outcome = o } ≡ answerOf (courseOf steps t₀)) × (values ≡ over (courseOf steps t₀ .values) values₀) × (folds ≡ over (courseOf steps t₀ .folds) folds₀)
-    ends o e = rw (s .course-is, e, append-nil (s .front), append-nil (s .counts), s .values-are .0, s .folds-are .0) (refl, s .values-are .1, s .folds-are .1)
+        → (record { tween = t; done = i; unsettled = n; outcome = o } ≡ answerOf (courseOf steps t₀)) × (values ≡ over (courseOf steps t₀ .values) values₀) × (folds ≡ over (courseOf steps t₀ .folds) folds₀)
+    ends o e = rw (s .course-is, e, append-nil (s .front), append-nil (s .counts), add-zero n, s .values-are .0, s .folds-are .0) (refl, s .values-are .1, s .folds-are .1)
 
     pub stops : (r : Refusal) → i < length steps → stepOf t (getD steps i nan) ≡ Stops r
-        → (record { tween = t; done = i; outcome = Refused r } ≡ answerOf (courseOf steps t₀)) × (values ≡ over (courseOf steps t₀ .values) values₀) × (folds ≡ over (courseOf steps t₀ .folds) folds₀)
+        → (record { tween = t; done = i; unsettled = n; outcome = Refused r } ≡ answerOf (courseOf steps t₀)) × (values ≡ over (courseOf steps t₀ .values) values₀) × (folds ≡ over (courseOf steps t₀ .folds) folds₀)
     unfolding courseOf
     stops r h e = ends (Refused r) (rw (drop-cons steps i nan h, e))
 
     pub finishes : i ≡ length steps
-        → (record { tween = t; done = i; outcome = Finished } ≡ answerOf (courseOf steps t₀)) × (values ≡ over (courseOf steps t₀ .values) values₀) × (folds ≡ over (courseOf steps t₀ .folds) folds₀)
+        → (record { tween = t; done = i; unsettled = n; outcome = Finished } ≡ answerOf (courseOf steps t₀)) × (values ≡ over (courseOf steps t₀ .values) values₀) × (folds ≡ over (courseOf steps t₀ .folds) folds₀)
     unfolding courseOf
     finishes e = ends Finished (ap (λ (n : ℕ). courseOf (drop n steps) t) e ∙ (rw (drop-length steps)))
 

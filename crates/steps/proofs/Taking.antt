@@ -6,6 +6,7 @@ use borrow.Author.Tests.{lt-leb}
 use lib.Dec.{T, le→leb}
 use lib.Ieee.{Float}
 use lib.Ieee.Bits.{is-true}
+use Rattle.bezier.specs.declared.types.Found.{Found}
 use Rattle.refusal.specs.declared.Refusal.{Refusal}
 use Rattle.refusal.specs.declared.Refusal.the-variants.{RecordBreaksLimit}
 use Rattle.easing.specs.declared.answers.Eased.{Eased}
@@ -46,14 +47,14 @@ module _ (t u : Tween) (x : Float) (k : ℕ) (r : Bool) (a : Updated) (answers :
 
 -- a step that is taken leaves a tween within its limits
 abbrev Fine : Taken → Type 0
-Fine (Took u v k) = withinOf u ≡ true
+Fine (Took u f k) = withinOf u ≡ true
 Fine (Stops r) = Unit {0}
 
 fine : (u : Tween) (k : ℕ) → Fine (valued u k (valueOf u))
 fine u k = go (withinOf u) refl
   where
     any : (a : Eased) → withinOf u ≡ true → Fine (valued u k a)
-    any (eased.Value v) h = h
+    any (eased.Value f) h = h
     any (eased.Refused r) h = tt
 
     go : (b : Bool) → withinOf u ≡ b → Fine (valued u k (valueOf u))
@@ -68,21 +69,21 @@ step-fine t x = go (updateOf t x)
     go (Ran u k r) = fine u k
     go (Refused u r) = tt
 
-pub took-within : (t u : Tween) (x v : Float) (k : ℕ) → stepOf t x ≡ Took u v k → withinOf u ≡ true
-took-within t u x v k e = subst Fine e (step-fine t x)
+pub took-within : (t u : Tween) (x : Float) (f : Found) (k : ℕ) → stepOf t x ≡ Took u f k → withinOf u ≡ true
+took-within t u x f k e = subst Fine e (step-fine t x)
 
 module _ (t : Tween) (x w : Float) (p : Folding) (h : Glides t x (To w p)) where
   pub glide-within : withinOf (placed t w p) ≡ true
   glide-within = is-true (withinOf (placed t w p)) (update-within t (placed t w p) x (p .folds) true (goes-to t x w p h) (le→leb (p .«loop_count») 16777216 (h .1 .2)))
 
-  pub glide-took : (v : Float) → valueOf (placed t w p) ≡ eased.Value v → stepOf t x ≡ Took (placed t w p) v (p .folds)
+  pub glide-took : (f : Found) → valueOf (placed t w p) ≡ eased.Value f → stepOf t x ≡ Took (placed t w p) f (p .folds)
   unfolding stepOf
-  glide-took v e = rw (goes-to t x w p h, e) refl
+  glide-took f e = rw (goes-to t x w p h, e) refl
 
 -- a tween within its limits has a value
 pub always-value : (t : Tween) → withinOf t ≡ true → (r : Refusal) → valueOf t ≡ eased.Refused r → ⊥
 always-value t h r e = subst IsValue (sym (value-answers t (subst⁻¹ T h tt) .1) ∙ e) tt
   where
     IsValue : Eased → Type 0
-    IsValue (eased.Value v) = Unit {0}
+    IsValue (eased.Value f) = Unit {0}
     IsValue (eased.Refused r) = ⊥

@@ -1,10 +1,11 @@
 -- A run of steps, by `update` and `value` and nothing else.
-use Prim.Native.Nat.{ℕ}
-use mathlib.Core.Bool.{_&&_}
+use Prim.Native.Nat.{ℕ, suc}
+use mathlib.Core.Bool.{_&&_, cond}
 use mathlib.Core.List.{List, [], _∷_, _++_}
 use lib.Dec.{leb}
 use lib.ListN.{length, drop}
 use lib.Ieee.{Float}
+use Rattle.bezier.specs.declared.types.Found.{Found}
 use Rattle.refusal.specs.declared.Refusal.{Refusal}
 use Rattle.refusal.specs.declared.Refusal.the-variants.{RecordBreaksLimit, OutputTooShort}
 use Rattle.refusal.specs.Refusing.{unless}
@@ -24,7 +25,7 @@ use Rattle.steps.specs.declared.run.Run.{Run}
 
 -- the value behind an update; where it is refused, so is the step
 abbrev pub valued : Tween → ℕ → Eased → Taken
-valued u k (eased.Value v) = Took u v k
+valued u k (eased.Value f) = Took u f k
 valued u k (eased.Refused r) = Stops r
 
 abbrev pub taken : Updated → Taken
@@ -35,24 +36,31 @@ taken (updated.Refused u r) = Stops r
 unfoldable pub stepOf : Tween → Float → Taken
 stepOf t x = taken (updateOf t x)
 
--- what a run comes to: the tween, the value and the folds of each step that was taken, and how it ended
+-- what a run comes to: the tween, the value and the folds of each step that was taken, how many of the values are not settled, and how it ended. Request 1: "Values don't change": a value is what was found, without the search behind it
 pub record Course : Type 0 where
   pub tween : Tween
   pub values : List Float
   pub folds : List ℕ
+  pub unsettled : ℕ
   pub outcome : Outcome
 
 -- nothing taken
 abbrev pub ended : Tween → Outcome → Course
-ended t o = record { tween = t; values = []; folds = []; outcome = o }
+ended t o = record { tween = t; values = []; folds = []; unsettled = 0; outcome = o }
 
 -- nothing taken, and refused
 abbrev pub stopped : Tween → Refusal → Course
 stopped t r = ended t (Refused r)
 
+-- Request 1, for a run as for a batch: "how many of its samples weren't" settled. n is how many behind this one are not
+abbrev pub counting : Found → ℕ → ℕ
+counting f n = cond (f .settled) n (suc n)
+
 -- a step that was taken, and the rest; or the first refusal, with the tween as it stood
 abbrev pub followed : Taken → Tween → (Tween → Course) → Course
-followed (Took u v k) t rest = let c = rest u in record { tween = c .tween; values = v ∷ c .values; folds = k ∷ c .folds; outcome = c .outcome }
+followed (Took u f k) t rest =
+    let c = rest u in
+    record { tween = c .tween; values = f .value ∷ c .values; folds = k ∷ c .folds; unsettled = counting f (c .unsettled); outcome = c .outcome }
 followed (Stops r) t rest = stopped t r
 
 unfoldable pub courseOf : List Float → Tween → Course
@@ -67,7 +75,7 @@ runOf t steps values folds =
     (courseOf steps t))
 
 abbrev pub answerOf : Course → Run
-answerOf c = record { tween = c .tween; done = length (c .values); outcome = c .outcome }
+answerOf c = record { tween = c .tween; done = length (c .values); unsettled = c .unsettled; outcome = c .outcome }
 
 -- a lent list afterwards: the front is written, what lies behind it stays
 abbrev pub over : {A : Type 0} → List A → List A → List A

@@ -20,20 +20,22 @@ pub enum Outcome {
 }
 
 // done is how many steps were taken: where the run stopped, the place of the step that was refused. The
-// tween is as it stood before that step.
+// tween is as it stood before that step. unsettled is how many of the values written are not settled.
 pub struct Run {
     pub tween: Tween,
     pub done: usize,
+    pub unsettled: usize,
     pub outcome: Outcome,
 }
 
-fn stop(tween: Tween, done: usize, refusal: Refusal) -> Run
-    ensures { λ r. ⌜ r ≡ record { tween = tween; done = done; outcome = Outcome.Refused refusal } ⌝ }
+fn answer(tween: Tween, done: usize, unsettled: usize, outcome: Outcome) -> Run
+    ensures { λ r. ⌜ r ≡ record { tween = tween; done = done; unsettled = unsettled; outcome = outcome } ⌝ }
 {
     Run {
         tween,
         done,
-        outcome: Outcome::Refused(refusal),
+        unsettled,
+        outcome,
     }
 }
 
@@ -44,6 +46,7 @@ fn run_on(first: Tween, steps: &[f32], values: &mut [f32], folds: &mut [u32]) ->
     ensures fold { λ _. ⌜ now (folds .exit) ≡ over (courseOf (now (steps .entry)) first .folds) (now (folds .entry)) ⌝ }
 {
     let mut t = first;
+    let mut unsettled: usize = 0;
     let mut i: usize = 0;
     while i < steps.len() {
         match glide(t, steps[i]) {
@@ -52,26 +55,25 @@ fn run_on(first: Tween, steps: &[f32], values: &mut [f32], folds: &mut [u32]) ->
                 t.delay_elapsed = waited;
                 t.loop_count = now.loop_count;
                 t.ping_pong_reverse = now.ping_pong_reverse;
-                values[i] = sure_value(t);
+                let found = sure_value(t);
+                values[i] = found.value;
                 folds[i] = now.folds;
+                unsettled += !found.settled as usize;
                 i += 1;
             }
             Glided::Unsure => match take(t, steps[i]) {
-                Taken::Took(tween, value, made) => {
-                    values[i] = value;
+                Taken::Took(tween, found, made) => {
+                    values[i] = found.value;
                     folds[i] = made;
+                    unsettled += !found.settled as usize;
                     t = tween;
                     i += 1;
                 }
-                Taken::Stops(refusal) => return stop(t, i, refusal),
+                Taken::Stops(refusal) => return answer(t, i, unsettled, Outcome::Refused(refusal)),
             },
         }
     }
-    Run {
-        tween: t,
-        done: i,
-        outcome: Outcome::Finished,
-    }
+    answer(t, i, unsettled, Outcome::Finished)
 }
 
 // The value after each step and the folds of each, into the fronts of values and folds. Refused: 4; 12
@@ -82,13 +84,13 @@ pub fn run_steps(t: Tween, steps: &[f32], values: &mut [f32], folds: &mut [u32])
     ensures fold { λ _. ⌜ now (folds .exit) ≡ over (runOf t (now (steps .entry)) (now (values .entry)) (now (folds .entry)) .folds) (now (folds .entry)) ⌝ }
 {
     if !within(t) {
-        return stop(t, 0, Refusal::RecordBreaksLimit);
+        return answer(t, 0, 0, Outcome::Refused(Refusal::RecordBreaksLimit));
     }
     if values.len() < steps.len() {
-        return stop(t, 0, Refusal::OutputTooShort);
+        return answer(t, 0, 0, Outcome::Refused(Refusal::OutputTooShort));
     }
     if folds.len() < steps.len() {
-        return stop(t, 0, Refusal::OutputTooShort);
+        return answer(t, 0, 0, Outcome::Refused(Refusal::OutputTooShort));
     }
     run_on(t, steps, values, folds)
 }

@@ -4,6 +4,7 @@ ghost use mathlib.Core.Bool.{true};
 ghost use Rattle.tween.specs.Limits.{withinOf};
 ghost use Rattle.tween.specs.Calls.{valueOf};
 ghost use Rattle.steps.specs.Course.{stepOf};
+use bezier::Found;
 use easing::Eased;
 use refusal::Refusal;
 use tween::Tween;
@@ -12,8 +13,8 @@ use tween::step_on;
 use tween::value_in;
 
 pub enum Taken {
-    // The tween behind the step, its value, and the folds.
-    Took(Tween, f32, u32),
+    // The tween behind the step, its value with the search behind it, and the folds.
+    Took(Tween, Found, u32),
     Stops(Refusal),
 }
 
@@ -33,7 +34,7 @@ pub fn take(t: Tween, step: f32) -> Taken
                 return Taken::Stops(Refusal::RecordBreaksLimit);
             }
             match value_in(tween) {
-                Eased::Value(value) => Taken::Took(tween, value, folds),
+                Eased::Value(found) => Taken::Took(tween, found, folds),
                 Eased::Refused(refusal) => Taken::Stops(refusal),
             }
         }
@@ -42,12 +43,12 @@ pub fn take(t: Tween, step: f32) -> Taken
 }
 
 // A tween within its limits has a value: the 0 is never answered.
-pub fn sure_value(t: Tween) -> f32
+pub fn sure_value(t: Tween) -> Found
     requires { ⌜ withinOf t ≡ true ⌝ }
     ensures { λ r. ⌜ valueOf t ≡ Eased.Value r ⌝ }
 {
     match value_in(t) {
-        Eased::Value(value) => value,
-        Eased::Refused(_) => 0.0,
+        Eased::Value(found) => found,
+        Eased::Refused(_) => Found::plain(0.0),
     }
 }

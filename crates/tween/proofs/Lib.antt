@@ -6,5 +6,6 @@ pub mod Handed
 pub mod Kept
 pub mod KeptByUpdate
 pub mod Reported
+pub mod Unchanged
 pub mod Valued
 pub mod Ways

@@ -1,6 +1,6 @@
 -- A tween within its limits has a progress from 0 to 1, an eased progress and a value, both finite: it never meets a refusal of its easing. Assumes nothing.
 use mathlib.Core.Path.{_≡_, refl, subst⁻¹}
-use mathlib.Core.Bool.{true, cond}
+use mathlib.Core.Bool.{true}
 use lib.Dec.{T, lit≤}
 use lib.Ieee.{Float, binary32, eq}
 use lib.Ieee.Bits.{is-true}
@@ -13,6 +13,8 @@ use Rattle.math.proofs.Sizes.{at-most-finite, at-most-more}
 use Rattle.math.proofs.Numbers.{div-number}
 use Rattle.math.proofs.Bounded.{one-within, blend-most}
 use Rattle.math.proofs.Ranges.{clamped}
+use Rattle.bezier.specs.declared.types.Found.{Found}
+use Rattle.bezier.specs.Search.{foundAt, withValue}
 use Rattle.units.specs.declared.InProgress.the-variants as progress
 use Rattle.easing.specs.declared.answers.Eased.{Eased}
 use Rattle.easing.specs.declared.answers.Eased.the-variants.{Value}
@@ -20,13 +22,13 @@ use Rattle.easing.specs.Apply.{applyOf}
 use Rattle.easing.proofs.Finite.{apply-bounded}
 use Rattle.tween.specs.declared.record.Tween.{Tween}
 use Rattle.tween.specs.Limits.{withinOf}
-use Rattle.tween.specs.Calls.{progressIn, progressOf, easedProgressOf, blendIn, valueOf}
+use Rattle.tween.specs.Calls.{progressIn, progressOf, easedProgressOf, blendAt, blendIn, valueOf}
 use Rattle.tween.proofs.Bounds.{Limits, limits}
 use Rattle.easing.proofs.Answering.{fits-answers}
 
 -- a value, at most 2 ^ 53 in size
 abbrev Finite : Eased → Type 0
-Finite a = (v : Float) × (a ≡ Value v) × AtMost 9007199254740992 v
+Finite a = (f : Found) × (a ≡ Value f) × AtMost 9007199254740992 (f .value)
 
 module _ (t : Tween) (h : T (withinOf t)) where
   within : withinOf t ≡ true
@@ -45,27 +47,28 @@ module _ (t : Tween) (h : T (withinOf t)) where
   unfolding progressOf
   progress-answers = (progressIn t, rw within, progress-within)
 
-  eased : (v : Float) × (applyOf (t .easing) (progressIn t) ≡ Value v)
+  eased : (f : Found) × (applyOf (t .easing) (progressIn t) ≡ Value f)
   eased = fits-answers (t .easing) (progressIn t) (i .easing-fits) (le-numbers zeroF (progressIn t) (progress-within .0) .1)
 
-  pub eased-progress-answers : (v : Float) × (easedProgressOf t ≡ Value v) × AtMost 134217728 v
+  pub eased-progress-answers : (f : Found) × (easedProgressOf t ≡ Value f) × AtMost 134217728 (f .value)
   unfolding easedProgressOf
   eased-progress-answers = (eased .0, rw within (eased .1), apply-bounded (t .easing) (progressIn t) (eased .0) (eased .1))
 
   blended : Finite (blendIn t (applyOf (t .easing) (progressIn t)))
   blended =
-      let c = eased .0 in
-      let m : AtMost 134217728 c = apply-bounded (t .easing) (progressIn t) c (eased .1) in
+      let f = eased .0 in
+      let c = f .value in
+      let m : AtMost 134217728 c = apply-bounded (t .easing) (progressIn t) f (eased .1) in
       subst⁻¹ (λ (a : Eased). Finite (blendIn t a)) (eased .1) (
-        cond (t .«ping_pong_reverse») (blendOf (t .end) (t .start) c) (blendOf (t .start) (t .end) c),
+        withValue (blendAt t c) f,
         refl,
         by-test (AtMost 9007199254740992) (t .«ping_pong_reverse») (blendOf (t .end) (t .start) c) (blendOf (t .start) (t .end) c)
             (λ _. blend-most (t .end) (t .start) c (i .end-most) (i .start-most) m) (λ _. blend-most (t .start) (t .end) c (i .start-most) (i .end-most) m),
       )
 
-  pub value-answers : (v : Float) × (valueOf t ≡ Value v) × AtMost 9007199254740992 v
+  pub value-answers : Finite (valueOf t)
   unfolding valueOf
   value-answers =
       rw within
-      (by-test Finite (eq (t .duration) zeroF) (Value (t .end)) (blendIn t (applyOf (t .easing) (progressIn t)))
-      (λ _. (t .end, refl, at-most-more 16777216 9007199254740992 (t .end) (lit≤ tt) (i .end-most))) (λ _. blended))
+      (by-test Finite (eq (t .duration) zeroF) (Value (foundAt true (t .end))) (blendIn t (applyOf (t .easing) (progressIn t)))
+      (λ _. (foundAt true (t .end), refl, at-most-more 16777216 9007199254740992 (t .end) (lit≤ tt) (i .end-most))) (λ _. blended))

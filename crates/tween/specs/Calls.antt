@@ -1,9 +1,10 @@
 -- Document 01, "The tween" and "Refusal numbers": the calls that read a tween, and those that change it, but for `update`. Each refuses 4 first.
-use mathlib.Core.Bool.{false, cond}
+use mathlib.Core.Bool.{true, false, cond}
 use lib.Ieee.{Float, inf, lt, eq, isNan}
 use Rattle.math.specs.Rounded.{_⊕_, _⊖_, _⊗_, wholeF, zeroF}
 use Rattle.math.specs.Range.{clampOf, clamp01Of, maxZeroOf}
 use Rattle.math.specs.Blend.{ratioOf, blendOf}
+use Rattle.bezier.specs.Search.{foundAt, withValue}
 use Rattle.refusal.specs.declared.Refusal.the-variants.{ProgressIsNan, RecordBreaksLimit}
 use Rattle.refusal.specs.Refusing.{unless}
 use Rattle.units.specs.declared.InSeconds.{InSeconds}
@@ -39,15 +40,19 @@ unfoldable pub easedProgressOf : Tween → Eased
 easedProgressOf t = unless (withinOf t) (eased.Refused RecordBreaksLimit) (applyOf (t .easing) (progressIn t))
 
 -- "ends exchanged while ping_pong_reverse"
+abbrev pub blendAt : Tween → Float → Float
+blendAt t c = cond (t .«ping_pong_reverse») (blendOf (t .end) (t .start) c) (blendOf (t .start) (t .end) c)
+
+-- Request 1: "Easing, tween value .. hand the "settled" mark on"
 abbrev pub blendIn : Tween → Eased → Eased
-blendIn t (eased.Value c) = eased.Value (cond (t .«ping_pong_reverse») (blendOf (t .end) (t .start) c) (blendOf (t .start) (t .end) c))
+blendIn t (eased.Value f) = eased.Value (withValue (blendAt t (f .value)) f)
 blendIn t (eased.Refused r) = eased.Refused r
 
--- "`value` is end if duration is 0; else the blend at the eased elapsed / duration"
+-- "`value` is end if duration is 0; else the blend at the eased elapsed / duration". Request 1: "values found without easing count as settled with no evaluations"
 unfoldable pub valueOf : Tween → Eased
 valueOf t =
     unless (withinOf t) (eased.Refused RecordBreaksLimit)
-    (cond (eq (t .duration) zeroF) (eased.Value (t .end)) (blendIn t (applyOf (t .easing) (progressIn t))))
+    (cond (eq (t .duration) zeroF) (eased.Value (foundAt true (t .end))) (blendIn t (applyOf (t .easing) (progressIn t))))
 
 unfoldable pub snapshotOf : Tween → Snapped
 snapshotOf t = unless (withinOf t) (snapped.Refused RecordBreaksLimit) (snapped.Snapshot (snapshotIn t))

@@ -5,3 +5,4 @@ pub mod Folds
 pub mod Update
 pub mod Inner
 pub mod Promises
+pub mod Values

@@ -7,6 +7,7 @@ use crate::answers::Snapped;
 use crate::limits::within;
 use crate::record::Tween;
 use crate::record::TweenSnapshot;
+use bezier::Found;
 use easing::Eased;
 use loop_mode::Loop;
 use loop_mode::passes;
@@ -22,15 +23,16 @@ fn progress_in(t: Tween) -> f32
     math::ratio(t.elapsed, t.duration)
 }
 
+// The blend at an eased progress, by the same search.
 fn blend_in(t: Tween, eased: Eased) -> Eased
     ensures { λ r. ⌜ r ≡ blendIn t eased ⌝ }
 {
     match eased {
-        Eased::Value(c) => {
+        Eased::Value(f) => {
             if t.ping_pong_reverse {
-                return Eased::Value(math::blend(t.end, t.start, c));
+                return Eased::Value(f.with_value(math::blend(t.end, t.start, f.value)));
             }
-            Eased::Value(math::blend(t.start, t.end, c))
+            Eased::Value(f.with_value(math::blend(t.start, t.end, f.value)))
         }
         Eased::Refused(r) => Eased::Refused(r),
     }
@@ -55,7 +57,7 @@ pub fn value_in(t: Tween) -> Eased
     ensures { λ r. ⌜ r ≡ valueOf t ⌝ }
 {
     if t.duration == 0.0 {
-        return Eased::Value(t.end);
+        return Eased::Value(Found::plain(t.end));
     }
     let easing = t.easing;
     blend_in(t, easing.apply(Progress(progress_in(t))))

@@ -5,16 +5,16 @@ use mathlib.Core.Path.{sym, _∙_, subst}
 use borrow.Author.Needs.{needs}
 use lib.ListN.{length}
 use Rattle.tween.specs.Inner.{Glides}
-use Rattle.steps.proofs.Courses.{Reached, begins, goes-on, stops, finishes}
+use Rattle.steps.proofs.Courses.{Reached, few-more, begins, goes-on, stops, finishes}
 use Rattle.steps.proofs.Taking.{took-within, glide-within, glide-took}
 use Rattle.steps.proofs.run.run_on.Statement.{statement}
 use Rattle.steps.proofs.run.run_on.Tie as tie
 
 abbrev Inv-loop : tie.InvT-loop
-Inv-loop steps values₀ folds₀ t₀ i₀ values folds t i = Reached steps values₀ folds₀ t₀ values folds t i
+Inv-loop steps values₀ folds₀ t₀ n₀ i₀ values folds t n i = Reached steps values₀ folds₀ t₀ values folds t n i
 
 abbrev μ-loop : tie.MeasureT-loop
-μ-loop steps values₀ folds₀ t₀ i₀ values folds t i = length steps - i
+μ-loop steps values₀ folds₀ t₀ n₀ i₀ values folds t n i = length steps - i
 
 pub run-on-spec : {M : Type 1} → statement M
 run-on-spec =
@@ -33,12 +33,14 @@ run-on-spec =
     (λ c. search needs)
     (λ c. omega (arith, c .before .before .before .before .before .before .before .loop .inv .folds-long, c .before .before .before .before .before .before .before .before .before .before .before .pre .2))
     (λ c. search needs)
+    (λ c. let s = c .before .before .before .before .before .before .before .before in omega (arith, few-more (c .before .sure-value .result .settled) _ _ (s .loop .inv .few-unsettled)))
+    (λ c. search needs)
     (λ c. search needs)
     (λ c.
-    let s = c .before .before .before .before .before .before .before in
+    let s = c .before .before .before .before .before .before .before .before in
     let p = s .before .before .before .before .pre in
-    let g = subst (Glides _ _) (c .before .before .waited .given .1) (c .before .before .before .before .glide .ensures) in
-    goes-on _ _ _ _ (p .1) (p .2) _ _ _ _ (s .loop .inv) _ _ _ (c .before .before .before .before .before .before .loop-test .taken) (glide-took _ _ _ _ g _ (c .sure-value .ensures)) (glide-within _ _ _ _ g))
+    let g = subst (Glides _ _) (c .before .before .before .waited .given .1) (c .before .before .before .before .before .glide .ensures) in
+    goes-on _ _ _ _ (p .1) (p .2) _ _ _ _ _ (s .loop .inv) _ _ _ (c .before .before .before .before .before .before .before .loop-test .taken) (glide-took _ _ _ _ g _ (c .before .sure-value .ensures)) (glide-within _ _ _ _ g))
     (λ c. search needs)
     (λ c. search needs)
     (λ c. search needs)
@@ -49,12 +51,14 @@ run-on-spec =
     (λ c. search needs)
     (λ c. omega (arith, c .before .before .before .before .before .before .before .before .before .before .loop .inv .folds-long, c .before .before .before .before .before .before .before .before .before .before .before .before .before .before .pre .2))
     (λ c. search needs)
+    (λ c. let s = c .before .before .before .before .before .before .before .before .before .before .before in omega (arith, few-more (c .before .before .tween .given .0 .1 .0 .settled) _ _ (s .loop .inv .few-unsettled), s .before .before .before .before .good .1 .0))
+    (λ c. omega (arith, c .before .before .before .before .before .before .before .before .before .before .before .before .before .before .before .good .1 .0))
     (λ c. search needs)
     (λ c.
-    let s = c .before .before .before .before .before .before .before .before .before .before in
+    let s = c .before .before .before .before .before .before .before .before .before .before .before in
     let p = s .before .before .before .before .pre in
-    let e = sym (c .before .before .before .take .ensures) ∙ c .before .tween .given .1 in
-    goes-on _ _ _ _ (p .1) (p .2) _ _ _ _ (s .loop .inv) _ _ _ (c .before .before .before .before .before .before .before .before .before .loop-test .taken) e (took-within _ _ _ _ _ e))
+    let e = sym (c .before .before .before .before .take .ensures) ∙ c .before .before .tween .given .1 in
+    goes-on _ _ _ _ (p .1) (p .2) _ _ _ _ _ (s .loop .inv) _ _ _ (c .before .before .before .before .before .before .before .before .before .before .loop-test .taken) e (took-within _ _ _ _ _ e))
     (λ c. search needs)
     (λ c κs. search needs)
     (λ c. c .before .before .before .before .before .before .before .before .before .before .before .loop .inv .values-long)
@@ -62,12 +66,13 @@ run-on-spec =
     (λ c.
     let s = c .before .before .before .before .before .before .before .before .before .before .before in
     let p = s .before .before .before .before .pre in
-    let r = stops _ _ _ _ (p .1) (p .2) _ _ _ _ (s .loop .inv) _ (c .before .before .before .before .before .before .before .before .before .before .loop-test .taken) (sym (c .before .before .before .before .take .ensures) ∙ c .before .before .refusal .given .1) in
-    (c .stop .ensures ∙ r .0, (r .1, r .2)))
-    (λ c. c .before .loop .inv .values-long)
-    (λ c. c .before .loop .inv .folds-long)
+    let r = stops _ _ _ _ (p .1) (p .2) _ _ _ _ _ (s .loop .inv) _ (c .before .before .before .before .before .before .before .before .before .before .loop-test .taken) (sym (c .before .before .before .before .take .ensures) ∙ c .before .before .refusal .given .1) in
+    (c .answer .ensures ∙ r .0, (r .1, r .2)))
+    (λ c κs. search needs)
+    (λ c. c .before .before .loop .inv .values-long)
+    (λ c. c .before .before .loop .inv .folds-long)
     (λ c.
-    let s = c .before in
+    let s = c .before .before in
     let p = s .before .before .before .before .pre in
-    let r = finishes _ _ _ _ (p .1) (p .2) _ _ _ _ (s .loop .inv) (omega (arith, s .loop .inv .few, c .loop-test .left)) in
-    (r .0, (r .1, r .2))))
+    let r = finishes _ _ _ _ (p .1) (p .2) _ _ _ _ _ (s .loop .inv) (omega (arith, s .loop .inv .few, c .before .loop-test .left)) in
+    (c .answer2 .ensures ∙ r .0, (r .1, r .2))))

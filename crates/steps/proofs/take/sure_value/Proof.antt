@@ -12,5 +12,6 @@ sure-value-spec =
     (λ c κs. search needs)
     (λ c. search needs)
     (λ c. search needs)
-    (λ c. sym (c .before .before .before .value-in .ensures) ∙ c .before .value .given .1)
-    (λ c. absurd (always-value _ (c .before .before .before .pre) _ (sym (c .before .before .value-in .ensures) ∙ c .enum-told .given .1))))
+    (λ c κs. search needs)
+    (λ c. sym (c .before .before .before .value-in .ensures) ∙ c .before .found .given .1)
+    (λ c. absurd (always-value _ (c .before .before .before .before .pre) _ (sym (c .before .before .before .value-in .ensures) ∙ c .before .enum-told .given .1))))

@@ -17,6 +17,6 @@ take-spec =
     (λ c. search needs)
     (λ c. search needs)
     (λ c. search needs)
-    (λ c. simp (← (c .before .before .before .before .before .before .before .before .before .step-on .ensures), c .before .before .before .before .before .before .before .tween .given .1, ← (c .before .before .before .value-in .ensures), c .before .value .given .1))
+    (λ c. simp (← (c .before .before .before .before .before .before .before .before .before .step-on .ensures), c .before .before .before .before .before .before .before .tween .given .1, ← (c .before .before .before .value-in .ensures), c .before .found .given .1))
     (λ c. simp (← (c .before .before .before .before .before .before .before .before .before .step-on .ensures), c .before .before .before .before .before .before .before .tween .given .1, ← (c .before .before .before .value-in .ensures), c .before .refusal .given .1))
     (λ c. simp (← (c .before .before .before .step-on .ensures), c .before .refusal2 .given .1)))

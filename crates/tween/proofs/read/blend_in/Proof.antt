@@ -9,8 +9,10 @@ blend-in-spec =
     (tie.spec
     (λ c. search needs)
     (λ c κs. search needs)
-    (λ c. simp (c .blend .ensures, c .before .before .before .eased .given .1, c .before .if1 .taken))
+    (λ c κs. search needs)
+    (λ c. simp (c .with-value .ensures, c .before .blend .ensures, c .before .before .before .before .eased .given .1, c .before .before .if1 .taken))
+    (λ c κs. search needs)
     (λ c κs. search needs)
     (λ c. search needs)
-    (λ c. simp (c .blend2 .ensures, c .before .before .before .eased .given .1, c .before .if1 .left))
+    (λ c. simp (c .with-value2 .ensures, c .before .blend2 .ensures, c .before .before .before .before .eased .given .1, c .before .before .if1 .left))
     (λ c. simp (c .before .eased2 .given .1)))

@@ -10,7 +10,8 @@ unfolding valueOf ofBits
 value-in-spec =
     tie.close
     (tie.spec
-    (λ c. simp (c .before .before .pre, c .if1 .taken))
+    (λ c κs. search needs)
+    (λ c. simp (c .plain .ensures, c .before .before .before .pre, c .before .if1 .taken))
     (λ c κs. search needs)
     (λ c κs. search needs)
     (λ c κs. search needs)
