@@ -9,8 +9,10 @@ use lib.ListN.{length, take, drop, getD}
 use lib.Seq.{take-take}
 use lib.Ieee.{Float, nan, le}
 use lib.Ieee.Bits.{is-true}
-use mir.Val.{boolByte}
+use mir.Syntax.{Width}
+use mir.Val.{Fits, boolByte}
 use denote.Floats.{passes as holds}
+use Rattle.math.proofs.Choice.{by-test}
 use Rattle.math.proofs.Order.{lt-le, le-chain}
 use Rattle.frames.specs.declared.frame.Keyframe.{Keyframe}
 use Rattle.frames.specs.Limits.{framesAfter, noFrame}
@@ -19,9 +21,12 @@ use Rattle.frames.specs.Sampling.{timesOf, leading, passedOf, firstOf, l
 use Rattle.frames.proofs.Rising.{rest-fine, head-above}
 
 -- a test adds at most 1
-pub byte-most : (b : Bool) → boolByte b ≤ 1
-byte-most true = omega arith
-byte-most false = omega arith
+pub byte-below : (b : Bool) (c i : ℕ) → c < i → c + boolByte b < i + 1
+byte-below true c i h = omega arith
+byte-below false c i h = omega arith
+
+pub byte-fits : (w : Width) (b : Bool) (c i : ℕ) → c < i → Fits w i → Fits w (c + boolByte b)
+byte-fits w b c i h m = omega (arith, byte-below b c i h)
 
 one-more : (b : Bool) (c : ℕ) → cond b (suc c) c ≡ boolByte b + c
 one-more true c = omega arith
@@ -51,7 +56,9 @@ module _ (q : Float → Bool) where
   pub count-most : (l : List Float) → countOf q l ≤ length l
   unfolding countOf
   count-most [] = omega arith
-  count-most (x ∷ l) = rw (one-more (q x) (countOf q l)) (omega (arith, byte-most (q x), count-most l))
+  count-most (x ∷ l) =
+      let r = count-most l in
+      by-test (λ (n : ℕ). n ≤ suc (length l)) (q x) (suc (countOf q l)) (countOf q l) (λ _. omega arith) (λ _. omega arith)
 
 module _ (t : Float) where
   pub not-nan : le nan t ≡ false

@@ -1,4 +1,4 @@
--- Samples: before and after all frames, and that every sample is finite. Assumes nothing.
+-- Samples: before and after all frames, that every sample is finite, and that no more can be unsettled than there are. Assumes nothing.
 use Prim.Native.Nat.{ℕ, _-_, _<_, _≤_}
 use mathlib.Core.Path.{_≡_, refl}
 use mathlib.Core.Bool.{true, false}
@@ -28,10 +28,11 @@ use Rattle.easing.specs.Apply.{applyOf}
 use Rattle.easing.proofs.Finite.{apply-bounded}
 use Rattle.frames.specs.declared.frame.Keyframe.{Keyframe}
 use Rattle.frames.specs.Limits.{frameWithin, framesWithin, beforeAll, noFrame}
-use Rattle.frames.specs.Sampling.{passedOf, firstOf, lastOf, cutOf, spanOf, foundIn, easedOf, alongOf, betweenOf, ownOf, atOf, sampleOf}
+use Rattle.frames.specs.Sampling.{passedOf, firstOf, lastOf, cutOf, spanOf, foundIn, easedOf, alongOf, betweenOf, ownOf, atOf, sampleOf, unsettledOf}
 use Rattle.frames.proofs.Rising.{each-fine, rising, time-fine, time-number, value-fine}
 use Rattle.frames.proofs.Clocks.{Clock, clock-most, time-clock}
 use Rattle.frames.proofs.Walks.{lead-some, lead-below}
+use Rattle.frames.proofs.Counts.{count-most}
 
 epsilon-finite : T (isFinite epsilonF)
 unfolding ofBits
@@ -156,3 +157,7 @@ module _ (l : List Keyframe) (fine : framesWithin l ≡ true) (some : 0 < length
       let b : 0 < length l - 1 = omega (arith, one, some) in
       let f : le (lastOf l .time) (firstOf l .time) ≡ false = not-le-of-lt (firstOf l .time) (lastOf l .time) (rising beforeAll l fine 0 (length l - 1) b last-place) in
       rw (after-last secs h, f, is-true (le (lastOf l .time) (lastOf l .time)) (le-self (lastOf l .time) number-last)))
+
+pub unsettled-most : (l : List Keyframe) (times : List Float) → unsettledOf l times ≤ length times
+unfolding unsettledOf
+unsettled-most l times = count-most _ times

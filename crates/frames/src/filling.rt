@@ -44,8 +44,8 @@ pub fn fill(frames: [Keyframe; 64], n: usize, times: &[f32], out: &mut [f32]) ->
         let l = frames[low + 1];
         let found = pick(first, last, k, l, t);
         out[i] = found.value;
-        unsettled += !found.settled as usize;
         i += 1;
+        unsettled += !found.settled as usize;
     }
     unsettled
 }

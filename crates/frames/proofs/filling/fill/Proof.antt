@@ -5,18 +5,19 @@ use mathlib.Core.Bool.{Bool, not}
 use mathlib.Core.List.{List}
 use native.Mathlib.Omega.{arith}
 use borrow.Author.Needs.{needs}
+use mir.Syntax.{w64}
+use mir.Val.{Fits}
 use denote.Ref.{now}
 use lib.ListN.{length, take, drop, getD, length-set}
 use lib.Seq.{take-length}
 use lib.Ieee.{Float, nan}
 use Rattle.frames.specs.Counting.{countOf}
 use Rattle.frames.specs.Sampling.{sampleOf, filledOf, unsettledOf}
-use Rattle.bezier.specs.declared.types.Found.{Found}
 use Rattle.frames.specs.declared.frame.Keyframe.{Keyframe}
 use Rattle.frames.proofs.Picks.{picked-by}
 use Rattle.frames.proofs.Walks.{array-long}
 use Rattle.frames.proofs.Fills.{fillTo, fill-none, fill-more, fill-all}
-use Rattle.frames.proofs.Counts.{byte-most, count-next, count-past}
+use Rattle.frames.proofs.Counts.{byte-below, byte-fits, count-next, count-past}
 use Rattle.frames.proofs.filling.fill.Statement.{statement}
 use Rattle.frames.proofs.filling.fill.Tie as tie
 
@@ -29,7 +30,7 @@ off frames n secs = not (sampleOf (take n frames) secs .settled)
 abbrev Inv-loop : tie.InvT-loop
 Inv-loop n times out₀ frames first last starts unsettled₀ i₀ out unsettled i =
     (i ≤ length times) × (length out ≡ length out₀) × (out ≡ fillTo (at frames n) times out₀ i)
-    × (unsettled ≤ i) × (unsettled + countOf (off frames n) (drop i (take (length times) times)) ≡ countOf (off frames n) times)
+    × (unsettled < i + 1) × (unsettled + countOf (off frames n) (drop i (take (length times) times)) ≡ countOf (off frames n) times)
 
 abbrev μ-loop : tie.MeasureT-loop
 μ-loop n times out₀ frames first last starts unsettled₀ i₀ out unsettled i = length times - i
@@ -80,8 +81,8 @@ fill-spec =
     (λ c. search needs)
     (λ c. search needs)
     (λ c. search needs)
-    (λ c. omega (arith, byte-most (not (c .before .pick .result .settled))))
     (λ c. search needs)
+    (λ c. let h : Fits w64 (c .before .before .before .before .before .before .before .before .before .before .loop .i + 1) = omega arith in search (needs, byte-fits))
     (λ c. search needs)
     (λ c.
     let s = c .before .before .before .before .before .before .before .before .before .before in
@@ -89,7 +90,7 @@ fill-spec =
     let h : s .loop .i < length (now (b .args .times)) = omega arith in
     let e = sampled (c .before) in
     let q = count-next (off (b .args .t1) (b .args .n)) (now (b .args .times)) (length (now (b .args .times))) (s .loop .i) h (λ k. absurd (omega (arith, k))) in
-    (omega arith, simp length-set (s .loop .inv .1), rw (e, s .loop .inv .2) (fill-more (at (b .args .t1) (b .args .n)) nan (now (b .args .times)) (now (b .args .out)) (b .pre .3) (s .loop .i) h), omega (arith, byte-most (not (c .before .pick .result .settled))), rw e (omega (arith, q))))
+    (omega arith, simp length-set (s .loop .inv .1), rw (e, s .loop .inv .2) (fill-more (at (b .args .t1) (b .args .n)) nan (now (b .args .times)) (now (b .args .out)) (b .pre .3) (s .loop .i) h), search (needs, byte-below), rw e (omega (arith, q))))
     (λ c. c .before .loop .inv .1)
     (λ c.
     let s = c .before in

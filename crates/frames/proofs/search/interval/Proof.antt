@@ -1,14 +1,15 @@
 -- `interval` meets its contract. The invariant: what is counted and what is left to count make the whole count. The measure is the places that are left. Assumes nothing.
 use Prim.Native.Nat.{_+_, _-_, _<_, _≤_}
 use mathlib.Core.Path.{_≡_}
-use mathlib.Core.Bool.{Bool}
 use native.Mathlib.Omega.{arith}
 use borrow.Author.Needs.{needs}
+use mir.Syntax.{w32}
+use mir.Val.{Fits}
 use denote.Ref.{now}
-use lib.ListN.{take, drop, getD}
-use lib.Ieee.{Float, nan, le}
+use lib.ListN.{take, drop}
+use lib.Ieee.{Float, le}
 use Rattle.frames.specs.Counting.{countOf, counted}
-use Rattle.frames.proofs.Counts.{byte-most, count-next, count-past, not-nan}
+use Rattle.frames.proofs.Counts.{byte-below, byte-fits, count-next, count-past, not-nan}
 use Rattle.frames.proofs.search.interval.Statement.{statement}
 use Rattle.frames.proofs.search.interval.Tie as tie
 
@@ -17,10 +18,6 @@ Inv-loop times n t last count₀ i₀ count i = (count < i) × (i ≤ 63) × (co
 
 abbrev μ-loop : tie.MeasureT-loop
 μ-loop times n t last count₀ i₀ count i = last - i
-
--- whether the time of a turn is at or before t
-abbrev seen : tie.At-loop Inv-loop μ-loop → Bool
-seen s = le (getD (now (s .before .args .times)) (s .loop .i) nan) (s .before .args .t)
 
 pub interval-spec : {M : Type 1} → statement M
 interval-spec =
@@ -33,13 +30,13 @@ interval-spec =
     (λ c. search needs)
     (λ c. search needs)
     (λ c. search needs)
-    (λ c. omega (arith, byte-most (seen (c .before .before))))
+    (λ c. let h : Fits w32 (c .before .before .loop .i) = omega arith in search (needs, byte-fits))
     (λ c. search needs)
     (λ c. search needs)
     (λ c.
     let s = c .before .before in
     let b = s .before in
-    (omega (arith, byte-most (seen s)), omega arith, omega (arith, s .loop .inv .2, count-next (λ (x : Float). le x (b .args .t)) (now (b .args .times)) (b .args .n - 1) (s .loop .i) (c .before .loop-test .taken) (λ _. not-nan (b .args .t)))))
+    (search (needs, byte-below), omega arith, omega (arith, s .loop .inv .2, count-next (λ (x : Float). le x (b .args .t)) (now (b .args .times)) (b .args .n - 1) (s .loop .i) (c .before .loop-test .taken) (λ _. not-nan (b .args .t)))))
     (λ c. search needs)
     (λ c.
     let s = c .before in
