@@ -1,4 +1,4 @@
--- Document 01, "The track": the value of frames at a time in seconds.
+-- Document 01, "The track": the value of frames at a time in seconds, and by request 1 the search behind it.
 use Prim.Native.Nat.{ℕ, suc, _-_}
 use mathlib.Core.Bool.{Bool, true, not, cond}
 use mathlib.Core.List.{List, [], _∷_, _++_, map}
@@ -36,7 +36,7 @@ cutOf x top = cond (lt x top) x top
 abbrev pub spanOf : Float → Float
 spanOf d = cond (lt epsilonF d) d epsilonF
 
--- a refusal counts as 0; no easing of a frame within limits refuses
+-- a refusal counts as 0, settled; no easing of a frame within limits refuses
 abbrev pub foundIn : Eased → Found
 foundIn (Value f) = f
 foundIn (Refused r) = foundAt true zeroF
@@ -87,6 +87,6 @@ timesOf fs = map (λ (k : Keyframe). k .time) fs
 unfoldable pub filledOf : List Keyframe → List Float → List Float → List Float
 filledOf l times out = map (λ (secs : Float). sampleOf l secs .value) times ++ drop (length times) out
 
--- Request 1: "The batch writes how many of its samples weren't", that is, settled
+-- Request 1: "The batch writes how many of its samples weren't": those at these times that are not settled
 unfoldable pub unsettledOf : List Keyframe → List Float → ℕ
 unsettledOf l times = countOf (λ (secs : Float). not (sampleOf l secs .settled)) times
