@@ -5,26 +5,27 @@ use mathlib.Core.Option.{Option, none, some}
 use lib.Ieee.{Float, lt, eq, isNan, ofBits}
 use Rattle.math.specs.Rounded.{zeroF}
 use Rattle.math.specs.Range.{clamp01Of}
+use Rattle.bezier.specs.declared.types.Found.{Found}
 use Rattle.easing.specs.Kinds.{curveOf}
 use Rattle.easing.specs.Params.{paramsOf, withinOf}
-use Rattle.easing.specs.Apply.{easedAt, applyOf}
+use Rattle.easing.specs.Apply.{searchOf, easedAt, applyOf}
 use Rattle.easing.specs.declared.kinds.Easing.{Easing}
-use Rattle.frames.specs.Sampling.{valueIn, easedOf}
+use Rattle.frames.specs.Sampling.{foundIn, easedOf}
 use Rattle.easing.proofs.Starts.{Starts, starts}
 
 zero-eq : eq zeroF zeroF ≡ true
 unfolding eq ofBits
 zero-eq = refl
 
-eased-from : (c : Option (Float → Float)) (fine : Bool) → Starts c → eq (valueIn (easedAt c fine zeroF)) zeroF ≡ true
-eased-from none fine s = zero-eq
-eased-from (some f) true s = s
-eased-from (some f) false s = zero-eq
+eased-from : (c : Option (Float → Float)) (search : Float → Found) (fine : Bool) → Starts c → eq (foundIn (easedAt c search fine zeroF) .value) zeroF ≡ true
+eased-from none search fine s = zero-eq
+eased-from (some f) search true s = s
+eased-from (some f) search false s = zero-eq
 
 pub zero-clamped : clamp01Of zeroF ≡ zeroF
 unfolding lt ofBits
 zero-clamped = refl
 
-pub eased-zero : (e : Easing) → eq (easedOf e zeroF) zeroF ≡ true
+pub eased-zero : (e : Easing) → eq (easedOf e zeroF .value) zeroF ≡ true
 unfolding applyOf isNan ofBits
-eased-zero e = rw zero-clamped (eased-from (curveOf e) (withinOf (paramsOf e)) (starts e))
+eased-zero e = rw zero-clamped (eased-from (curveOf e) (searchOf e) (withinOf (paramsOf e)) (starts e))

@@ -12,4 +12,5 @@ pub mod Samples
 pub mod Scans
 mod Shifts
 mod Times
+pub mod Unchanged
 pub mod Walks

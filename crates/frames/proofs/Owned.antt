@@ -21,7 +21,7 @@ use Rattle.math.proofs.Blends.{blend-zero}
 use Rattle.math.proofs.Sizes.{at-most-finite, sub-at-most}
 use Rattle.frames.specs.declared.frame.Keyframe.{Keyframe}
 use Rattle.frames.specs.Limits.{frameWithin, framesWithin, beforeAll, noFrame}
-use Rattle.frames.specs.Sampling.{passedOf, firstOf, lastOf, spanOf, betweenOf, sampleOf}
+use Rattle.frames.specs.Sampling.{passedOf, firstOf, lastOf, spanOf, betweenOf, ownOf, sampleOf}
 use Rattle.frames.proofs.Rising.{each-fine, rising, time-fine, time-number}
 use Rattle.frames.proofs.Clocks.{clock-finite, time-clock}
 use Rattle.frames.proofs.Picks.{passed-interval}
@@ -36,7 +36,7 @@ finite-apart : (k l : Keyframe) → frameWithin k ≡ true → frameWithin l ≡
 finite-apart k l f g =
     at-most-finite 33554432 (l .value ⊖ k .value) (sub-at-most binary32 33554432 (power-is binary32 25 (lit≤ tt)) 16777216 16777216 (l .value) (k .value) (lit≤ tt) (value-bound l g) (value-bound k f))
 
-between-own : (k l : Keyframe) → frameWithin k ≡ true → frameWithin l ≡ true → T (fits binary32 (k .value)) → eq (betweenOf k l (k .time)) (k .value) ≡ true
+between-own : (k l : Keyframe) → frameWithin k ≡ true → frameWithin l ≡ true → T (fits binary32 (k .value)) → eq (betweenOf k l (k .time) .value) (k .value) ≡ true
 unfolding betweenOf
 between-own k l f g F =
     let ck = time-clock (k .time) (time-fine k f) in
@@ -53,7 +53,7 @@ module _ (l : List Keyframe) (fine : framesWithin l ≡ true) (p : ℕ) (here : 
   real = time-number (getD l p noFrame .time) (time-fine (getD l p noFrame) (each-fine beforeAll l fine p here))
 
   -- between the first frame and the last
-  inner : 0 < p → p < length l - 1 → eq (sampleOf l (getD l p noFrame .time)) (getD l p noFrame .value) ≡ true
+  inner : 0 < p → p < length l - 1 → eq (sampleOf l (getD l p noFrame .time) .value) (getD l p noFrame .value) ≡ true
   unfolding sampleOf
   inner low high =
       let x = getD l p noFrame .time in
@@ -66,17 +66,17 @@ module _ (l : List Keyframe) (fine : framesWithin l ≡ true) (p : ℕ) (here : 
       rw (ne-eqb (length l) 1 (λ o. omega (arith, o, low, high)), is-true (lt zeroF x) up, is-true (lt x (lastOf l .time)) last, not-le-of-lt (firstOf l .time) x first, not-le-of-lt x (lastOf l .time) last, e, d)
       (between-own (getD l p noFrame) (getD l (p + 1) noFrame) (each-fine beforeAll l fine p here) (each-fine beforeAll l fine (p + 1) (omega arith)) held)
 
-  at-first : p ≡ 0 → sampleOf l (getD l p noFrame .time) ≡ getD l p noFrame .value
+  at-first : p ≡ 0 → sampleOf l (getD l p noFrame .time) ≡ ownOf (getD l p noFrame)
   at-first z =
       let r : T (le (getD l p noFrame .time) (getD l p noFrame .time)) = le-self (getD l p noFrame .time) real in
       rw z (sample-first l fine (omega arith) (firstOf l .time) (rw z at r))
 
-  at-last : p ≡ length l - 1 → sampleOf l (getD l p noFrame .time) ≡ getD l p noFrame .value
+  at-last : p ≡ length l - 1 → sampleOf l (getD l p noFrame .time) ≡ ownOf (getD l p noFrame)
   at-last z =
       let r : T (le (getD l p noFrame .time) (getD l p noFrame .time)) = le-self (getD l p noFrame .time) real in
       rw z (sample-last l fine (omega arith) (lastOf l .time) (rw z at r))
 
-  pub sample-own : eq (sampleOf l (getD l p noFrame .time)) (getD l p noFrame .value) ≡ true
+  pub sample-own : eq (sampleOf l (getD l p noFrame .time) .value) (getD l p noFrame .value) ≡ true
   sample-own =
       let h : p ≤ length l - 1 = omega arith in
       ⊎-elim (λ (z : p ≡ 0). rw (at-first z) same) (λ (low : 0 < p). ⊎-elim (λ (z : p ≡ length l - 1). rw (at-last z) same) (λ (high : p < length l - 1). inner low high) (eq-or-lt-of-le h)) (eq-zero-or-pos p)

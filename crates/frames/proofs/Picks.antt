@@ -16,10 +16,11 @@ use denote.Floats.{passes as holds}
 use Rattle.math.specs.Range.{maxZeroOf}
 use Rattle.math.proofs.Choice.{by-test}
 use Rattle.math.proofs.Order.{le-numbers, le-self, lt-le, le-chain, lt-of-not-le}
+use Rattle.bezier.specs.declared.types.Found.{Found}
 use Rattle.frames.specs.declared.frame.Keyframe.{Keyframe}
 use Rattle.frames.specs.Limits.{framesWithin, beforeAll, noFrame}
 use Rattle.frames.specs.Counting.{counted}
-use Rattle.frames.specs.Sampling.{timesOf, passedOf, lastOf, cutOf, betweenOf, pickOf, atOf, sampleOf}
+use Rattle.frames.specs.Sampling.{timesOf, passedOf, lastOf, cutOf, betweenOf, ownOf, pickOf, atOf, sampleOf}
 use Rattle.frames.proofs.Rising.{each-fine, rising, time-fine, time-number}
 use Rattle.frames.proofs.Walks.{lead-is, lead-below}
 use Rattle.frames.proofs.Counts.{counted-passed, counted-front}
@@ -41,7 +42,7 @@ pick-same : (first last k l m n : Keyframe) (t : Float) → (le t (first .time) 
 pick-same first last k l m n t h = go (le t (first .time)) (le (last .time) t) h
   where
     go : (a b : Bool) → (a ≡ false → b ≡ false → (k ≡ m) × (l ≡ n))
-        → cond a (first .value) (cond b (last .value) (betweenOf k l t)) ≡ cond a (first .value) (cond b (last .value) (betweenOf m n t))
+        → cond a (ownOf first) (cond b (ownOf last) (betweenOf k l t)) ≡ cond a (ownOf first) (cond b (ownOf last) (betweenOf m n t))
     go true b h = refl
     go false true h = refl
     go false false h =
@@ -112,12 +113,12 @@ module _ (fs : List Keyframe) (n : ℕ) (some : 1 ≤ n) (fit : n ≤ length fs)
     pub picked : (i : ℕ) → Place t real i → pickOf (getD fs 0 noFrame) (getD fs (n - 1) noFrame) (getD fs i noFrame) (getD fs (i + 1) noFrame) t ≡ sampleOf (take n fs) secs
     unfolding sampleOf
     picked i p =
-        by-test (λ (v : Float). pickOf (getD fs 0 noFrame) (getD fs (n - 1) noFrame) (getD fs i noFrame) (getD fs (i + 1) noFrame) t ≡ v) (eqb (length (take n fs)) 1) _ _
+        by-test (λ (v : Found). pickOf (getD fs 0 noFrame) (getD fs (n - 1) noFrame) (getD fs i noFrame) (getD fs (i + 1) noFrame) t ≡ v) (eqb (length (take n fs)) 1) _ _
         (λ e. let o : n ≡ 1 = sym long ∙ eqb-true (length (take n fs)) 1 e in rw (single o, at 0 some))
         (λ e. at-time t real i p ∙ ap (atOf (take n fs)) (cut ∙ rw last-at))
 
   -- the same, of what the calls on the way answer
-  pub picked-by : (secs x t v : Float) (starts : List Float) (low : ℕ) → x ≡ maxZeroOf secs → t ≡ cutOf x (getD fs (n - 1) noFrame .time) → take n starts ≡ timesOf (take n fs) → low ≡ counted starts t (n - 1)
+  pub picked-by : (secs x t : Float) (v : Found) (starts : List Float) (low : ℕ) → x ≡ maxZeroOf secs → t ≡ cutOf x (getD fs (n - 1) noFrame .time) → take n starts ≡ timesOf (take n fs) → low ≡ counted starts t (n - 1)
       → v ≡ pickOf (getD fs 0 noFrame) (getD fs (n - 1) noFrame) (getD fs low noFrame) (getD fs (low + 1) noFrame) t
       → v ≡ sampleOf (take n fs) secs
   picked-by secs x t v starts low ex et es el ev =

@@ -1,4 +1,4 @@
--- Samples: before and after all frames, and that every sample is finite. Assumes nothing.
+-- Samples: before and after all frames, that every sample is finite, and that no more can be unsettled than there are. Assumes nothing.
 use Prim.Native.Nat.{ℕ, _-_, _<_, _≤_}
 use mathlib.Core.Path.{_≡_, refl}
 use mathlib.Core.Bool.{true, false}
@@ -20,6 +20,7 @@ use Rattle.math.proofs.Sizes.{at-most-finite, at-most-more, sub-near}
 use Rattle.math.proofs.Bounded.{zero-most, value-most, blend-most}
 use Rattle.math.proofs.Ranges.{clamped}
 use Rattle.math.proofs.Wholes.{power-is}
+use Rattle.bezier.specs.declared.types.Found.{Found}
 use Rattle.easing.specs.declared.kinds.Easing.{Easing}
 use Rattle.easing.specs.declared.answers.Eased.{Eased}
 use Rattle.easing.specs.declared.answers.Eased.the-variants.{Value, Refused}
@@ -27,10 +28,11 @@ use Rattle.easing.specs.Apply.{applyOf}
 use Rattle.easing.proofs.Finite.{apply-bounded}
 use Rattle.frames.specs.declared.frame.Keyframe.{Keyframe}
 use Rattle.frames.specs.Limits.{frameWithin, framesWithin, beforeAll, noFrame}
-use Rattle.frames.specs.Sampling.{passedOf, firstOf, lastOf, cutOf, spanOf, valueIn, easedOf, alongOf, betweenOf, atOf, sampleOf}
+use Rattle.frames.specs.Sampling.{passedOf, firstOf, lastOf, cutOf, spanOf, foundIn, easedOf, alongOf, betweenOf, ownOf, atOf, sampleOf, unsettledOf}
 use Rattle.frames.proofs.Rising.{each-fine, rising, time-fine, time-number, value-fine}
 use Rattle.frames.proofs.Clocks.{Clock, clock-most, time-clock}
 use Rattle.frames.proofs.Walks.{lead-some, lead-below}
+use Rattle.frames.proofs.Counts.{count-most}
 
 epsilon-finite : T (isFinite epsilonF)
 unfolding ofBits
@@ -57,17 +59,20 @@ module _ (t x y : Float) (ct : Clock t) (cx : Clock x) (cy : Clock y) where
 pub value-bound : (k : Keyframe) → frameWithin k ≡ true → AtMost 16777216 (k .value)
 value-bound k f = value-most (k .value) (holds (isValue (k .value)) (value-fine k f))
 
-eased-most : (e : Easing) (p : Float) → AtMost 134217728 (easedOf e p)
+eased-most : (e : Easing) (p : Float) → AtMost 134217728 (easedOf e p .value)
 eased-most e p = go (applyOf e p) refl
   where
-    go : (r : Eased) → applyOf e p ≡ r → AtMost 134217728 (valueIn r)
-    go (Value v) h = apply-bounded e p v h
+    go : (r : Eased) → applyOf e p ≡ r → AtMost 134217728 (foundIn r .value)
+    go (Value f) h = apply-bounded e p f h
     go (Refused r) h = zero-most 134217728
 
-between-most : (k l : Keyframe) (t : Float) → frameWithin k ≡ true → frameWithin l ≡ true → AtMost 9007199254740992 (betweenOf k l t)
+abbrev Bounded : Found → Type 0
+Bounded f = AtMost 9007199254740992 (f .value)
+
+between-most : (k l : Keyframe) (t : Float) → frameWithin k ≡ true → frameWithin l ≡ true → Bounded (betweenOf k l t)
 unfolding betweenOf
 between-most k l t f g =
-    let c = easedOf (k .easing) (alongOf (k .time) (l .time) t) in
+    let c = easedOf (k .easing) (alongOf (k .time) (l .time) t) .value in
     blend-most (k .value) (l .value) c (value-bound k f) (value-bound l g) (eased-most (k .easing) (alongOf (k .time) (l .time) t))
 
 -- the time that is sampled: from 0 to the last time, or that time
@@ -105,32 +110,32 @@ module _ (l : List Keyframe) (fine : framesWithin l ≡ true) (some : 0 < length
   cut-number secs = by-test (λ (x : Float). isNan x ≡ false) (lt (maxZeroOf secs) (lastOf l .time)) (maxZeroOf secs) (lastOf l .time) (λ _. max-zero-number secs) (λ _. number-last)
 
   -- sampling answers are finite
-  sample-most : (secs : Float) → AtMost 9007199254740992 (sampleOf l secs)
+  sample-most : (secs : Float) → Bounded (sampleOf l secs)
   unfolding sampleOf
   sample-most secs =
       let t = cutOf (maxZeroOf secs) (lastOf l .time) in
-      let first : AtMost 9007199254740992 (firstOf l .value) = at-most-more 16777216 9007199254740992 (firstOf l .value) (lit≤ tt) (value-bound (firstOf l) (frame-fine 0 some)) in
-      let last : AtMost 9007199254740992 (lastOf l .value) = at-most-more 16777216 9007199254740992 (lastOf l .value) (lit≤ tt) (value-bound (lastOf l) (frame-fine (length l - 1) last-place)) in
-      by-test (AtMost 9007199254740992) (eqb (length l) 1) (firstOf l .value) (atOf l t) (λ _. first)
+      let first : Bounded (ownOf (firstOf l)) = at-most-more 16777216 9007199254740992 (firstOf l .value) (lit≤ tt) (value-bound (firstOf l) (frame-fine 0 some)) in
+      let last : Bounded (ownOf (lastOf l)) = at-most-more 16777216 9007199254740992 (lastOf l .value) (lit≤ tt) (value-bound (lastOf l) (frame-fine (length l - 1) last-place)) in
+      by-test Bounded (eqb (length l) 1) (ownOf (firstOf l)) (atOf l t) (λ _. first)
       (λ _.
-      by-test (AtMost 9007199254740992) (le t (firstOf l .time)) (firstOf l .value) _ (λ _. first)
+      by-test Bounded (le t (firstOf l .time)) (ownOf (firstOf l)) _ (λ _. first)
       (λ a.
-      by-test (AtMost 9007199254740992) (le (lastOf l .time) t) (lastOf l .value) (betweenOf (getD l (passedOf t l - 1) noFrame) (getD l (passedOf t l) noFrame) t) (λ _. last)
+      by-test Bounded (le (lastOf l .time) t) (ownOf (lastOf l)) (betweenOf (getD l (passedOf t l - 1) noFrame) (getD l (passedOf t l) noFrame) t) (λ _. last)
       (λ z.
       let low = passed-low t (cut-number secs) a z in
       let high = passed-high t (cut-number secs) a z in
       between-most (getD l (passedOf t l - 1) noFrame) (getD l (passedOf t l) noFrame) t (frame-fine (passedOf t l - 1) (omega (arith, low, high, some))) (frame-fine (passedOf t l) (omega (arith, high, some))))))
 
-  pub sample-finite : (secs : Float) → T (isFinite (sampleOf l secs))
-  sample-finite secs = at-most-finite 9007199254740992 (sampleOf l secs) (sample-most secs)
+  pub sample-finite : (secs : Float) → T (isFinite (sampleOf l secs .value))
+  sample-finite secs = at-most-finite 9007199254740992 (sampleOf l secs .value) (sample-most secs)
 
   -- at or before the first time
-  pub sample-first : (secs : Float) → T (le secs (firstOf l .time)) → sampleOf l secs ≡ firstOf l .value
+  pub sample-first : (secs : Float) → T (le secs (firstOf l .time)) → sampleOf l secs ≡ ownOf (firstOf l)
   unfolding sampleOf
   sample-first secs h =
       let x : T (le (maxZeroOf secs) (firstOf l .time)) = by-test (λ (z : Float). T (le z (firstOf l .time))) (lt zeroF secs) secs zeroF (λ _. h) (λ _. first-clock .0) in
       let t : T (le (cutOf (maxZeroOf secs) (lastOf l .time)) (firstOf l .time)) = by-test (λ (z : Float). T (le z (firstOf l .time))) (lt (maxZeroOf secs) (lastOf l .time)) (maxZeroOf secs) (lastOf l .time) (λ _. x) (λ k. le-chain (lastOf l .time) (maxZeroOf secs) (firstOf l .time) (le-of-not-lt (maxZeroOf secs) (lastOf l .time) (le-numbers (maxZeroOf secs) (firstOf l .time) x .0) number-last k) x) in
-      by-test (λ (v : Float). v ≡ firstOf l .value) (eqb (length l) 1) (firstOf l .value) (atOf l (cutOf (maxZeroOf secs) (lastOf l .time))) (λ _. refl)
+      by-test (λ (f : Found). f ≡ ownOf (firstOf l)) (eqb (length l) 1) (ownOf (firstOf l)) (atOf l (cutOf (maxZeroOf secs) (lastOf l .time))) (λ _. refl)
       (λ _. rw (is-true (le (cutOf (maxZeroOf secs) (lastOf l .time)) (firstOf l .time)) t))
 
   -- at or after the last
@@ -140,10 +145,10 @@ module _ (l : List Keyframe) (fine : framesWithin l ≡ true) (some : 0 < length
       let x : T (le (lastOf l .time) (maxZeroOf secs)) = by-test (λ (z : Float). T (le (lastOf l .time) z)) (lt zeroF secs) secs zeroF (λ _. h) (λ k. le-chain (lastOf l .time) secs zeroF h (le-of-not-lt zeroF secs (le-numbers zeroF (lastOf l .time) (last-clock .0) .0) n k)) in
       rw (not-lt-of-le (lastOf l .time) (maxZeroOf secs) x)
 
-  pub sample-last : (secs : Float) → T (le (lastOf l .time) secs) → sampleOf l secs ≡ lastOf l .value
+  pub sample-last : (secs : Float) → T (le (lastOf l .time) secs) → sampleOf l secs ≡ ownOf (lastOf l)
   unfolding sampleOf
   sample-last secs h =
-      by-test (λ (v : Float). v ≡ lastOf l .value) (eqb (length l) 1) (firstOf l .value) (atOf l (cutOf (maxZeroOf secs) (lastOf l .time)))
+      by-test (λ (f : Found). f ≡ ownOf (lastOf l)) (eqb (length l) 1) (ownOf (firstOf l)) (atOf l (cutOf (maxZeroOf secs) (lastOf l .time)))
       (λ e.
       let d : length l - 1 ≡ 0 = omega (arith, eqb-true (length l) 1 e) in
       rw d)
@@ -152,3 +157,7 @@ module _ (l : List Keyframe) (fine : framesWithin l ≡ true) (some : 0 < length
       let b : 0 < length l - 1 = omega (arith, one, some) in
       let f : le (lastOf l .time) (firstOf l .time) ≡ false = not-le-of-lt (firstOf l .time) (lastOf l .time) (rising beforeAll l fine 0 (length l - 1) b last-place) in
       rw (after-last secs h, f, is-true (le (lastOf l .time) (lastOf l .time)) (le-self (lastOf l .time) number-last)))
+
+pub unsettled-most : (l : List Keyframe) (times : List Float) → unsettledOf l times ≤ length times
+unfolding unsettledOf
+unsettled-most l times = count-most _ times

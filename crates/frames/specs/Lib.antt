@@ -2,3 +2,4 @@ pub mod Limits
 pub mod Sampling
 pub mod Counting
 pub mod Pushing
+pub mod Values

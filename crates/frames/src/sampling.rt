@@ -2,6 +2,7 @@
 ghost use mathlib.Core.Path.{_≡_};
 ghost use Rattle.frames.specs.Sampling.{cutOf, spanOf, alongOf, easedOf, betweenOf, pickOf};
 use crate::frame::Keyframe;
+use bezier::Found;
 use easing::Eased;
 use easing::Easing;
 use units::Progress;
@@ -21,12 +22,12 @@ pub fn span_of(d: f32) -> f32
 }
 
 // 0 where the easing refuses, which no easing of a frame within limits does.
-pub fn eased(e: Easing, p: f32) -> f32
+pub fn eased(e: Easing, p: f32) -> Found
     ensures { λ r. ⌜ r ≡ easedOf e p ⌝ }
 {
     match e.apply(Progress(p)) {
-        Eased::Value(v) => v,
-        Eased::Refused(_) => 0.0,
+        Eased::Value(found) => found,
+        Eased::Refused(_) => Found::plain(0.0),
     }
 }
 
@@ -38,23 +39,24 @@ pub fn along(from: f32, to: f32, t: f32) -> f32
 }
 
 // The blend at a t between the times of k and l.
-fn between(k: Keyframe, l: Keyframe, t: f32) -> f32
+fn between(k: Keyframe, l: Keyframe, t: f32) -> Found
     ensures { λ r. ⌜ r ≡ betweenOf k l t ⌝ }
 {
     let p = along(k.time, l.time, t);
     let e = k.easing;
-    math::blend(k.value, l.value, eased(e, p))
+    let found = eased(e, p);
+    found.with_value(math::blend(k.value, l.value, found.value))
 }
 
 // The value at t, where k and l are the frames before and after it.
-pub fn pick(first: Keyframe, last: Keyframe, k: Keyframe, l: Keyframe, t: f32) -> f32
+pub fn pick(first: Keyframe, last: Keyframe, k: Keyframe, l: Keyframe, t: f32) -> Found
     ensures { λ r. ⌜ r ≡ pickOf first last k l t ⌝ }
 {
     if t <= first.time {
-        return first.value;
+        return Found::plain(first.value);
     }
     if last.time <= t {
-        return last.value;
+        return Found::plain(last.value);
     }
     between(k, l, t)
 }

@@ -11,10 +11,10 @@ use lib.Ieee.{Float, nan}
 use borrow.Author.Tests.{lt-ltb, le-ltb, le-leb, lt-leb, leb-true}
 use Rattle.refusal.specs.declared.Refusal.the-variants.{RecordBreaksLimit, NoFrames, OutputTooShort}
 use Rattle.refusal.specs.Number.{numberOf}
-use Rattle.frames.specs.Sampling.{sampleOf, filledOf}
+use Rattle.frames.specs.Sampling.{sampleOf, filledOf, unsettledOf}
 use Rattle.keyframe.specs.declared.types.Track.{Track}
 use Rattle.keyframe.specs.Limits.{framesIn, withinOf}
-use Rattle.keyframe.specs.Batch.{batchNumber, batchOut, batchCount}
+use Rattle.keyframe.specs.Batch.{batchNumber, batchOut, batchCount, batchUnsettled}
 
 module _ (t : Track) (times out : List Float) where
   pub number-broken : withinOf t ≡ false → numberOf RecordBreaksLimit ≡ batchNumber t times out
@@ -34,13 +34,13 @@ module _ (t : Track) (times out : List Float) where
     unfolding batchNumber
     number-taken c h = rw (w, lt-ltb 0 (t .count) (omega (arith, c)), le-leb (length times) (length out) h)
 
-  pub refused : (n : ℕ) → n ≡ batchNumber t times out → eqb n 0 ≡ false → (0 ≡ batchCount t times out) × ((out ≡ batchOut t times out) × (n ≡ batchNumber t times out))
-  unfolding batchCount batchOut
-  refused n e z = (rw (← e, z), (rw (← e, z), e))
+  pub refused : (n : ℕ) → n ≡ batchNumber t times out → eqb n 0 ≡ false → (0 ≡ batchCount t times out) × ((out ≡ batchOut t times out) × ((n ≡ batchNumber t times out) × (0 ≡ batchUnsettled t times out)))
+  unfolding batchCount batchOut batchUnsettled
+  refused n e z = (rw (← e, z), (rw (← e, z), (e, rw (← e, z))))
 
-  pub accepted : 0 ≡ batchNumber t times out → (length times ≡ batchCount t times out) × ((filledOf (framesIn t) times out ≡ batchOut t times out) × (0 ≡ batchNumber t times out))
-  unfolding batchCount batchOut
-  accepted e = (rw (← e), (rw (← e), e))
+  pub accepted : 0 ≡ batchNumber t times out → (length times ≡ batchCount t times out) × ((filledOf (framesIn t) times out ≡ batchOut t times out) × ((0 ≡ batchNumber t times out) × (unsettledOf (framesIn t) times ≡ batchUnsettled t times out)))
+  unfolding batchCount batchOut batchUnsettled
+  accepted e = (rw (← e), (rw (← e), (e, rw (← e))))
 
 count-by : (a b c : Bool) (m n : ℕ) → leb m n ≡ c → cond (eqb (cond a (cond b (cond c 0 12) 10) 4) 0) m 0 ≤ n
 count-by false b c m n e = omega arith
@@ -60,10 +60,10 @@ map-at f (x ∷ l) (suc k) h = map-at f l k (omega (arith, h))
 
 module _ (t : Track) (times out : List Float) where
   -- an accepted batch has the sample at each time
-  pub batch-at : batchNumber t times out ≡ 0 → (k : ℕ) → k < length times → getD (batchOut t times out) k nan ≡ sampleOf (framesIn t) (getD times k nan)
+  pub batch-at : batchNumber t times out ≡ 0 → (k : ℕ) → k < length times → getD (batchOut t times out) k nan ≡ sampleOf (framesIn t) (getD times k nan) .value
   unfolding batchOut filledOf
   batch-at e k h =
-      let f : Float → Float = λ s. sampleOf (framesIn t) s in
+      let f : Float → Float = λ s. sampleOf (framesIn t) s .value in
       let l : length (map f times) ≡ length times = length-map times f in
       rw e (List·getD-append (map f times) _ nan k (omega arith) ∙ map-at f times k h)
 
@@ -71,7 +71,7 @@ module _ (t : Track) (times out : List Float) where
   unfolding filledOf
   behind-by false k h = refl
   behind-by true k h =
-      let f : Float → Float = λ s. sampleOf (framesIn t) s in
+      let f : Float → Float = λ s. sampleOf (framesIn t) s .value in
       let n = length times in
       let l : length (map f times) ≡ n = length-map times f in
       let e : k ≡ length (map f times) + (k - n) = omega arith in
@@ -84,7 +84,7 @@ module _ (t : Track) (times out : List Float) where
   unfolding batchOut
   batch-behind k h = behind-by (eqb (batchNumber t times out) 0) k h
 
-  -- a refused batch writes nothing, and its front is empty
-  pub batch-refused : eqb (batchNumber t times out) 0 ≡ false → (batchOut t times out ≡ out) × (batchCount t times out ≡ 0)
-  unfolding batchOut batchCount
-  batch-refused e = (rw e, rw e)
+  -- a refused batch writes nothing into the output, its front is empty, and nothing is unsettled
+  pub batch-refused : eqb (batchNumber t times out) 0 ≡ false → (batchOut t times out ≡ out) × (batchCount t times out ≡ 0) × (batchUnsettled t times out ≡ 0)
+  unfolding batchOut batchCount batchUnsettled
+  batch-refused e = (rw e, rw e, rw e)

@@ -4,3 +4,4 @@ pub mod Kept
 mod Moves
 pub mod Promises
 pub mod Records
+pub mod Unchanged

@@ -14,11 +14,12 @@ use Rattle.math.proofs.Choice.{by-test}
 use Rattle.math.proofs.Order.{equal-le, not-lt-of-le}
 use Rattle.refusal.specs.declared.Refusal.{Refusal}
 use Rattle.refusal.specs.declared.Refusal.the-variants.{ElapsedTooLong, TrackFull}
+use Rattle.bezier.specs.declared.types.Found.{Found}
 use Rattle.easing.specs.declared.kinds.Easing.{Easing}
 use Rattle.frames.specs.declared.frame.Keyframe.{Keyframe}
 use Rattle.frames.specs.declared.frame.Put.{Put}
 use Rattle.frames.specs.Limits.{framesWithin, beforeAll, noFrame}
-use Rattle.frames.specs.Sampling.{cutOf, lastOf, atOf, firstOf, sampleOf}
+use Rattle.frames.specs.Sampling.{cutOf, lastOf, ownOf, atOf, firstOf, sampleOf}
 use Rattle.frames.specs.Pushing.{pushedOf, putOf}
 use Rattle.frames.proofs.Rising.{rising}
 use Rattle.frames.proofs.Pushed.{pushed-in}
@@ -47,7 +48,7 @@ zero-below = refl
 -- a time that equals 0 is sampled as +0 is
 stored-same : (l : List Keyframe) (time : Float) → sampleOf l (storedOf time) ≡ sampleOf l time
 unfolding sampleOf
-stored-same l time = ap (λ (x : Float). cond (eqb (length l) 1) (firstOf l .value) (atOf l (cutOf x (lastOf l .time)))) (maxed (eq time zeroF) refl)
+stored-same l time = ap (λ (x : Float). cond (eqb (length l) 1) (ownOf (firstOf l)) (atOf l (cutOf x (lastOf l .time)))) (maxed (eq time zeroF) refl)
   where
     maxed : (b : Bool) → eq time zeroF ≡ b → maxZeroOf (cond b zeroF time) ≡ maxZeroOf time
     maxed false e = refl
@@ -55,7 +56,7 @@ stored-same l time = ap (λ (x : Float). cond (eqb (length l) 1) (firstOf l .val
 
 -- where a push is done, a sample at its time equals the value that was pushed
 abbrev Sampled : Float → Float → Changed → Type 0
-Sampled time value r = r .outcome ≡ Done → Fine (r .track) → eq (sampleOf (framesIn (r .track)) time) value ≡ true
+Sampled time value r = r .outcome ≡ Done → Fine (r .track) → eq (sampleOf (framesIn (r .track)) time .value) value ≡ true
 
 never : {A : Type 0} (r : Refusal) → Refused r ≡ Done → A
 never r h =
@@ -70,14 +71,14 @@ placed-sampled t k F =
     (λ _ _ fine. go l (pushed-in k (framesIn t)) (take (length l) (l ++ drop (length l) (t .frames))) (take-at l (drop (length l) (t .frames)) (length l) refl) (frames-fine _ fine))
     (λ _ h _. never TrackFull h)
   where
-    go : (l : List Keyframe) → (p : ℕ) × ((p < length l) × (getD l p noFrame ≡ k)) → (m : List Keyframe) → m ≡ l → framesWithin m ≡ true → eq (sampleOf m (k .time)) (k .value) ≡ true
+    go : (l : List Keyframe) → (p : ℕ) × ((p < length l) × (getD l p noFrame ≡ k)) → (m : List Keyframe) → m ≡ l → framesWithin m ≡ true → eq (sampleOf m (k .time) .value) (k .value) ≡ true
     go l (p, (h, e)) m s fine =
         rw s
-        (subst (λ (x : Keyframe). eq (sampleOf l (x .time)) (x .value) ≡ true) e (sample-own l (rw s at fine) p h (subst⁻¹ (λ (x : Keyframe). T (fits binary32 (x .value))) e F)))
+        (subst (λ (x : Keyframe). eq (sampleOf l (x .time) .value) (x .value) ≡ true) e (sample-own l (rw s at fine) p h (subst⁻¹ (λ (x : Keyframe). T (fits binary32 (x .value))) e F)))
 
 pub push-sampled : (t : Track) → Fine t → (time value : Float) (e : Easing) → T (fits binary32 value) → pushOf t time value e .outcome ≡ Done
-    → eq (sampleOf (framesIn (pushOf t time value e .track)) time) value ≡ true
-push-sampled t fine time value e F h = subst (λ (x : Float). eq x value ≡ true) (stored-same (framesIn (pushOf t time value e .track)) time) (sampled h (push-within t fine time value e))
+    → eq (sampleOf (framesIn (pushOf t time value e .track)) time .value) value ≡ true
+push-sampled t fine time value e F h = subst (λ (f : Found). eq (f .value) value ≡ true) (stored-same (framesIn (pushOf t time value e .track)) time) (sampled h (push-within t fine time value e))
   where
     sampled : Sampled (storedOf time) value (pushOf t time value e)
     sampled =
@@ -88,13 +89,13 @@ module _ (t : Track) (fine : Fine t) where
   ascending = rising beforeAll (framesIn t) (frames-fine t fine)
 
   module _ (some : 0 < length (framesIn t)) where
-    pub sample-real : (secs : Float) → T (isFinite (sampleOf (framesIn t) secs))
+    pub sample-real : (secs : Float) → T (isFinite (sampleOf (framesIn t) secs .value))
     sample-real = sample-finite (framesIn t) (frames-fine t fine) some
 
-    pub at-first : (secs : Float) → T (le secs (firstOf (framesIn t) .time)) → sampleOf (framesIn t) secs ≡ firstOf (framesIn t) .value
+    pub at-first : (secs : Float) → T (le secs (firstOf (framesIn t) .time)) → sampleOf (framesIn t) secs ≡ ownOf (firstOf (framesIn t))
     at-first = sample-first (framesIn t) (frames-fine t fine) some
 
-    pub at-last : (secs : Float) → T (le (lastOf (framesIn t) .time) secs) → sampleOf (framesIn t) secs ≡ lastOf (framesIn t) .value
+    pub at-last : (secs : Float) → T (le (lastOf (framesIn t) .time) secs) → sampleOf (framesIn t) secs ≡ ownOf (lastOf (framesIn t))
     at-last = sample-last (framesIn t) (frames-fine t fine) some
 
 -- what an update tells of running

@@ -8,7 +8,7 @@ use lib.Ieee.{Float}
 use Rattle.refusal.specs.declared.Refusal.the-variants.{RecordBreaksLimit, NoFrames, OutputTooShort}
 use Rattle.refusal.specs.Number.{numberOf}
 use Rattle.refusal.specs.Refusing.{unless}
-use Rattle.frames.specs.Sampling.{filledOf}
+use Rattle.frames.specs.Sampling.{filledOf, unsettledOf}
 use Rattle.keyframe.specs.declared.types.Track.{Track}
 use Rattle.keyframe.specs.Limits.{framesIn, withinOf}
 
@@ -27,3 +27,7 @@ batchOut t times out = cond (eqb (batchNumber t times out) 0) (filledOf (framesI
 -- the length of the filled front; "a refused call hands back an empty front"
 unfoldable pub batchCount : Track → List Float → List Float → ℕ
 batchCount t times out = cond (eqb (batchNumber t times out) 0) (length times) 0
+
+-- Request 1: "The batch writes how many of its samples weren't into one more lent number, 0 when refused; document 01's "nothing else" gives way there"
+unfoldable pub batchUnsettled : Track → List Float → List Float → ℕ
+batchUnsettled t times out = cond (eqb (batchNumber t times out) 0) (unsettledOf (framesIn t) times) 0

@@ -4,3 +4,4 @@ pub mod Playback
 pub mod Sampling
 pub mod Batch
 pub mod Stepping
+pub mod Values

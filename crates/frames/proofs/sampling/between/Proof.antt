@@ -12,4 +12,5 @@ between-spec =
     (λ c κs. search needs)
     (λ c κs. search needs)
     (λ c κs. search needs)
-    (λ c. simp (c .blend .ensures, c .before .eased .ensures, c .before .before .along .ensures)))
+    (λ c κs. search needs)
+    (λ c. simp (c .with-value .ensures, c .before .blend .ensures, c .before .before .eased .ensures, c .before .before .before .along .ensures)))

@@ -2,7 +2,7 @@
 use borrow.Author.Needs.{needs}
 use mathlib.Core.Path.{sym, ap, _∙_}
 use lib.Ieee.{ofBits}
-use Rattle.frames.specs.Sampling.{valueIn}
+use Rattle.frames.specs.Sampling.{foundIn}
 use Rattle.frames.proofs.sampling.eased.Statement.{statement}
 use Rattle.frames.proofs.sampling.eased.Tie as tie
 
@@ -14,5 +14,6 @@ eased-spec =
     (λ c κs. search needs)
     (λ c. search needs)
     (λ c. search needs)
-    (λ c. ap valueIn (sym (c .before .v .given .1) ∙ c .before .before .before .apply .ensures))
-    (λ c. ap valueIn (sym (c .enum-told .given .1) ∙ c .before .before .apply .ensures)))
+    (λ c κs. search needs)
+    (λ c. ap foundIn (sym (c .before .found .given .1) ∙ c .before .before .before .apply .ensures))
+    (λ c. c .plain .ensures ∙ ap foundIn (sym (c .before .enum-told .given .1) ∙ c .before .before .before .apply .ensures)))

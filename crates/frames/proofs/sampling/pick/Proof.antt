@@ -7,7 +7,9 @@ pub pick-spec : {M : Type 1} → statement M
 pick-spec =
     tie.close
     (tie.spec
-    (λ c. simp (c .if1 .taken))
-    (λ c. simp (c .before .before .if1 .left, c .if2 .taken))
+    (λ c κs. search needs)
+    (λ c. simp (c .plain .ensures, c .before .if1 .taken))
+    (λ c κs. search needs)
+    (λ c. simp (c .plain2 .ensures, c .before .before .before .if1 .left, c .before .if2 .taken))
     (λ c κs. search needs)
     (λ c. simp (c .before .before .before .if1 .left, c .before .if2 .left, c .between .ensures)))

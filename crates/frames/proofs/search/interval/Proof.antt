@@ -3,15 +3,18 @@ use Prim.Native.Nat.{_+_, _-_, _<_, _≤_}
 use mathlib.Core.Path.{_≡_}
 use native.Mathlib.Omega.{arith}
 use borrow.Author.Needs.{needs}
+use mir.Syntax.{w32}
+use mir.Val.{Fits}
 use denote.Ref.{now}
 use lib.ListN.{take, drop}
+use lib.Ieee.{Float, le}
 use Rattle.frames.specs.Counting.{countOf, counted}
-use Rattle.frames.proofs.Counts.{byte-below, byte-fits, count-next, count-past}
+use Rattle.frames.proofs.Counts.{byte-below, byte-fits, count-next, count-past, not-nan}
 use Rattle.frames.proofs.search.interval.Statement.{statement}
 use Rattle.frames.proofs.search.interval.Tie as tie
 
 abbrev Inv-loop : tie.InvT-loop
-Inv-loop times n t last count₀ i₀ count i = (count < i) × (i ≤ 63) × (count + countOf t (drop i (take last times)) ≡ counted times t last)
+Inv-loop times n t last count₀ i₀ count i = (count < i) × (i ≤ 63) × (count + countOf (λ (x : Float). le x t) (drop i (take last times)) ≡ counted times t last)
 
 abbrev μ-loop : tie.MeasureT-loop
 μ-loop times n t last count₀ i₀ count i = last - i
@@ -27,15 +30,15 @@ interval-spec =
     (λ c. search needs)
     (λ c. search needs)
     (λ c. search needs)
-    (λ c. search (needs, byte-fits))
+    (λ c. let h : Fits w32 (c .before .before .loop .i) = omega arith in search (needs, byte-fits))
     (λ c. search needs)
     (λ c. search needs)
     (λ c.
     let s = c .before .before in
     let b = s .before in
-    (search (needs, byte-below), omega arith, omega (arith, s .loop .inv .2, count-next (b .args .t) (now (b .args .times)) (b .args .n - 1) (s .loop .i) (c .before .loop-test .taken))))
+    (search (needs, byte-below), omega arith, omega (arith, s .loop .inv .2, count-next (λ (x : Float). le x (b .args .t)) (now (b .args .times)) (b .args .n - 1) (s .loop .i) (c .before .loop-test .taken) (λ _. not-nan (b .args .t)))))
     (λ c. search needs)
     (λ c.
     let s = c .before in
     let b = s .before in
-    (omega arith, omega (arith, s .loop .inv .2, count-past (b .args .t) (now (b .args .times)) (b .args .n - 1) (s .loop .i) (c .loop-test .left)))))
+    (omega arith, omega (arith, s .loop .inv .2, count-past (λ (x : Float). le x (b .args .t)) (now (b .args .times)) (b .args .n - 1) (s .loop .i) (c .loop-test .left)))))

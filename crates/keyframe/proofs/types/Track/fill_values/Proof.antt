@@ -44,4 +44,5 @@ fill-values-spec =
     let b = c .before .before .before .before .before .before .before .before in
     let a = b .before .before .before .before .args in
     let r = accepted (a .self) (now (a .times)) (now (a .out)) (number-taken (a .self) (now (a .times)) (now (a .out)) (within b) (c .before .before .before .before .before .before .if2 .left) (c .before .before .before .before .before .if3 .left)) in
-    (r .0, (c .before .before .fill .ensures ∙ r .1 .0, r .1 .1))))
+    let f = c .before .before .fill .ensures in
+    (r .0, (f .0 ∙ r .1 .0, (r .1 .1 .0, f .1 ∙ r .1 .1 .1)))))

@@ -15,7 +15,7 @@ values-at-spec =
     (λ c κs. search needs)
     (λ c.
     let x = c .before .before .before in
-    let a = x .before .before .before .before .before .args in
+    let a = x .before .before .before .before .before .before .args in
     let f = count-fits (a .self) (now (a .times)) (now (a .out)) in
     let k = x .fill-values .kept .1 .1 .0 in
     let n = x .fill-values .ensures .0 in
