@@ -10,13 +10,13 @@ use Rattle.easing.specs.declared.kinds.Easing.{Easing}
 use Rattle.easing.specs.Kinds.{curveOf}
 use Rattle.easing.specs.Params.{paramsOf, withinOf}
 use Rattle.easing.specs.Apply.{searchOf, easedAt, applyOf}
-use Rattle.easing.specs.Values.{valuePart, curveAt, applyValue}
+use Rattle.easing.specs.Values.{valuePart, curveAlone, applyAlone}
 
-at-unchanged : (c : Option (Float → Float)) (search : Float → Found) (fine : Bool) (t : Float) → valuePart (easedAt c search fine t) ≡ curveAt c fine t
+at-unchanged : (c : Option (Float → Float)) (search : Float → Found) (fine : Bool) (t : Float) → valuePart (easedAt c search fine t) ≡ curveAlone c fine t
 at-unchanged none search fine t = refl
 at-unchanged (some f) search true t = refl
 at-unchanged (some f) search false t = refl
 
-pub apply-unchanged : (e : Easing) (t : Float) → valuePart (applyOf e t) ≡ applyValue e t
-unfolding applyOf applyValue
+pub apply-unchanged : (e : Easing) (t : Float) → valuePart (applyOf e t) ≡ applyAlone e t
+unfolding applyOf applyAlone
 apply-unchanged e t = of-picked valuePart (isNan t) _ _ _ _ refl (at-unchanged (curveOf e) (searchOf e) (withinOf (paramsOf e)) (clamp01Of t))

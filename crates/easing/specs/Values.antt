@@ -18,9 +18,9 @@ abbrev pub valuePart : Eased → Refusal ⊎ Float
 valuePart (Value f) = inr (f .value)
 valuePart (Refused r) = inl r
 
-abbrev pub curveAt : Option (Float → Float) → Bool → Float → Refusal ⊎ Float
-curveAt none fine t = inl EasingNotSupplied
-curveAt (some curve) fine t = unless fine (inl EasingParameter) (inr (curve t))
+abbrev pub curveAlone : Option (Float → Float) → Bool → Float → Refusal ⊎ Float
+curveAlone none fine t = inl EasingNotSupplied
+curveAlone (some curve) fine t = unless fine (inl EasingParameter) (inr (curve t))
 
-unfoldable pub applyValue : Easing → Float → Refusal ⊎ Float
-applyValue e t = cond (isNan t) (inl ProgressIsNan) (curveAt (curveOf e) (withinOf (paramsOf e)) (clamp01Of t))
+unfoldable pub applyAlone : Easing → Float → Refusal ⊎ Float
+applyAlone e t = cond (isNan t) (inl ProgressIsNan) (curveAlone (curveOf e) (withinOf (paramsOf e)) (clamp01Of t))

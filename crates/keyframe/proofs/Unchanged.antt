@@ -16,17 +16,17 @@ use Rattle.keyframe.specs.Limits.{framesIn, withinOf}
 use Rattle.keyframe.specs.Playback.{activeOf}
 use Rattle.keyframe.specs.Sampling.{valueAtOf, valueNow}
 use Rattle.keyframe.specs.Batch.{batchOut}
-use Rattle.keyframe.specs.Values.{valueAtValue, batchValues}
+use Rattle.keyframe.specs.Values.{valueAtAlone, batchAlone}
 
-pub value-unchanged : (t : Track) (secs : Float) → valuePart (valueAtOf t secs) ≡ valueAtValue t secs
-unfolding valueAtOf valueAtValue
+pub value-unchanged : (t : Track) (secs : Float) → valuePart (valueAtOf t secs) ≡ valueAtAlone t secs
+unfolding valueAtOf valueAtAlone
 value-unchanged t secs =
     let s = Value (sampleOf (framesIn t) secs) in
     of-picked valuePart (withinOf t) (unless (ltb 0 (t .count)) (Refused NoFrames) s) (Refused RecordBreaksLimit) _ _ (of-picked valuePart (ltb 0 (t .count)) s (Refused NoFrames) _ _ (ap inr (sample-unchanged (framesIn t) secs)) refl) refl
 
-pub now-unchanged : (t : Track) → valuePart (valueNow t) ≡ valueAtValue t (activeOf t)
+pub now-unchanged : (t : Track) → valuePart (valueNow t) ≡ valueAtAlone t (activeOf t)
 now-unchanged t = value-unchanged t (activeOf t)
 
-pub batch-unchanged : (t : Track) (times out : List Float) → batchOut t times out ≡ batchValues t times out
-unfolding batchOut batchValues
+pub batch-unchanged : (t : Track) (times out : List Float) → batchOut t times out ≡ batchAlone t times out
+unfolding batchOut batchAlone
 batch-unchanged t times out = rw (filled-unchanged (framesIn t) times out)

@@ -7,13 +7,13 @@ use lib.Ieee.{Float}
 use Rattle.refusal.specs.declared.Refusal.{Refusal}
 use Rattle.refusal.specs.declared.Refusal.the-variants.{RecordBreaksLimit, NoFrames}
 use Rattle.refusal.specs.Refusing.{unless}
-use Rattle.frames.specs.Values.{sampleValue, filledValues}
+use Rattle.frames.specs.Values.{sampleAlone, filledAlone}
 use Rattle.keyframe.specs.declared.types.Track.{Track}
 use Rattle.keyframe.specs.Limits.{framesIn, withinOf}
 use Rattle.keyframe.specs.Batch.{batchNumber}
 
-unfoldable pub valueAtValue : Track → Float → Refusal ⊎ Float
-valueAtValue t secs = unless (withinOf t) (inl RecordBreaksLimit) (unless (ltb 0 (t .count)) (inl NoFrames) (inr (sampleValue (framesIn t) secs)))
+unfoldable pub valueAtAlone : Track → Float → Refusal ⊎ Float
+valueAtAlone t secs = unless (withinOf t) (inl RecordBreaksLimit) (unless (ltb 0 (t .count)) (inl NoFrames) (inr (sampleAlone (framesIn t) secs)))
 
-unfoldable pub batchValues : Track → List Float → List Float → List Float
-batchValues t times out = cond (eqb (batchNumber t times out) 0) (filledValues (framesIn t) times out) out
+unfoldable pub batchAlone : Track → List Float → List Float → List Float
+batchAlone t times out = cond (eqb (batchNumber t times out) 0) (filledAlone (framesIn t) times out) out

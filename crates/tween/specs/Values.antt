@@ -6,14 +6,14 @@ use Rattle.math.specs.Rounded.{zeroF}
 use Rattle.refusal.specs.declared.Refusal.{Refusal}
 use Rattle.refusal.specs.declared.Refusal.the-variants.{RecordBreaksLimit}
 use Rattle.refusal.specs.Refusing.{unless}
-use Rattle.easing.specs.Values.{applyValue}
+use Rattle.easing.specs.Values.{applyAlone}
 use Rattle.tween.specs.declared.record.Tween.{Tween}
 use Rattle.tween.specs.Limits.{withinOf}
 use Rattle.tween.specs.Calls.{progressIn, blendAt}
 
 -- the curve at the tween's progress
 unfoldable pub easedProgressAlone : Tween → Refusal ⊎ Float
-easedProgressAlone t = unless (withinOf t) (inl RecordBreaksLimit) (applyValue (t .easing) (progressIn t))
+easedProgressAlone t = unless (withinOf t) (inl RecordBreaksLimit) (applyAlone (t .easing) (progressIn t))
 
 abbrev pub blendAlone : Tween → Refusal ⊎ Float → Refusal ⊎ Float
 blendAlone t (inl r) = inl r
@@ -23,4 +23,4 @@ blendAlone t (inr c) = inr (blendAt t c)
 unfoldable pub valueAlone : Tween → Refusal ⊎ Float
 valueAlone t =
     unless (withinOf t) (inl RecordBreaksLimit)
-    (cond (eq (t .duration) zeroF) (inr (t .end)) (blendAlone t (applyValue (t .easing) (progressIn t))))
+    (cond (eq (t .duration) zeroF) (inr (t .end)) (blendAlone t (applyAlone (t .easing) (progressIn t))))
