@@ -16,6 +16,8 @@ use Rattle.math.specs.Range.{isValue, maxZeroOf}
 use Rattle.math.proofs.Choice.{and-both}
 use Rattle.math.proofs.Order.{lt-le, le-lt-chain, lt-le-chain}
 use Rattle.math.proofs.Upward.{Up}
+use Rattle.bezier.specs.declared.types.Found.{Found}
+use Rattle.bezier.specs.Search.{foundAt}
 use Rattle.easing.specs.Apply.{fitsRecordOf}
 use Rattle.frames.specs.declared.frame.Keyframe.{Keyframe}
 use Rattle.frames.specs.Limits.{isTime, frameWithin, framesAfter, framesWithin, beforeAll, noFrame}
@@ -151,9 +153,9 @@ module _ (w : LaxTrack) (secs t : Float) (low : ℕ) (x : Ended w secs t low) wh
       sym (clocked (trackFrom w) (x .most) all-fine _ (last-time (framesRead w) (w .count) long (λ z. omega (arith, z, x .some)) ∙ time (w .count - 1) (omega (arith, x .some))))
       ∙ clock-parts .1
 
-  sampled : (v : Float) → v ≡ sampleOf (take (w .count) (framesRead w)) secs → Value v ≡ quickOf w secs
+  sampled : (f : Found) → f ≡ sampleOf (take (w .count) (framesRead w)) secs → Value f ≡ quickOf w secs
   unfolding quickOf valueAtOf trackFrom
-  sampled v e = rw (all-known, all-within, lt-ltb 0 (w .count) (x .some), e)
+  sampled f e = rw (all-known, all-within, lt-ltb 0 (w .count) (x .some), e)
 
   cut-read : t ≡ cutOf (maxZeroOf secs) (getD (framesRead w) (w .count - 1) noFrame .time)
   cut-read = rw (time (w .count - 1) (omega (arith, x .some))) (x .cut)
@@ -161,21 +163,21 @@ module _ (w : LaxTrack) (secs t : Float) (low : ℕ) (x : Ended w secs t low) wh
   picked : pickOf (getD (framesRead w) 0 noFrame) (getD (framesRead w) (w .count - 1) noFrame) (getD (framesRead w) low noFrame) (getD (framesRead w) (low + 1) noFrame) t ≡ sampleOf (take (w .count) (framesRead w)) secs
   picked = scan-picked (framesRead w) (w .count) (x .some) long all-fine secs t cut-read low (x .seen .scan)
 
-  pub quick-first : le t (getD (w .frames) 0 noWords .time) ≡ true → Value (getD (w .frames) 0 noWords .value) ≡ quickOf w secs
+  pub quick-first : le t (getD (w .frames) 0 noWords .time) ≡ true → (f : Found) → f ≡ foundAt true (getD (w .frames) 0 noWords .value) → Value f ≡ quickOf w secs
   unfolding frameFrom
-  quick-first a = sampled _ (rw (frame 0 (x .some), a) at picked)
+  quick-first a f e = sampled f (e ∙ rw (frame 0 (x .some), a) at picked)
 
   module _ (a : le t (getD (w .frames) 0 noWords .time) ≡ false) where
-    pub quick-last : le (getD (w .frames) (w .count - 1) noWords .time) t ≡ true → Value (getD (w .frames) (w .count - 1) noWords .value) ≡ quickOf w secs
+    pub quick-last : le (getD (w .frames) (w .count - 1) noWords .time) t ≡ true → (f : Found) → f ≡ foundAt true (getD (w .frames) (w .count - 1) noWords .value) → Value f ≡ quickOf w secs
     unfolding frameFrom
-    quick-last z = sampled _ (rw (frame 0 (x .some), a, frame (w .count - 1) (omega (arith, x .some)), z) at picked)
+    quick-last z f e = sampled f (e ∙ rw (frame 0 (x .some), a, frame (w .count - 1) (omega (arith, x .some)), z) at picked)
 
     module _ (z : le (getD (w .frames) (w .count - 1) noWords .time) t ≡ false) where
       pub place-found : low < w .count - 1
       place-found = scan-inside (framesRead w) (w .count) (x .some) long all-fine secs t cut-read low (x .seen .scan) (rw (time 0 (x .some)) a) (rw (time (w .count - 1) (omega (arith, x .some))) z)
 
-      pub quick-between : (v : Float) → v ≡ betweenOf (frameFrom (getD (w .frames) low noWords)) (frameFrom (getD (w .frames) (low + 1) noWords)) t → Value v ≡ quickOf w secs
+      pub quick-between : (f : Found) → f ≡ betweenOf (frameFrom (getD (w .frames) low noWords)) (frameFrom (getD (w .frames) (low + 1) noWords)) t → Value f ≡ quickOf w secs
       unfolding frameFrom
-      quick-between v e =
+      quick-between f e =
           let h = place-found in
-          sampled v (e ∙ rw (frame 0 (x .some), a, frame (w .count - 1) (omega (arith, x .some)), z, frame low (omega (arith, h)), frame (low + 1) (omega (arith, h))) at picked)
+          sampled f (e ∙ rw (frame 0 (x .some), a, frame (w .count - 1) (omega (arith, x .some)), z, frame low (omega (arith, h)), frame (low + 1) (omega (arith, h))) at picked)

@@ -13,6 +13,7 @@ use lib.Ieee.Bits.{is-true}
 use borrow.Author.Tests.{ltb-true, le-ltb, ne-eqb}
 use Rattle.math.specs.Range.{isValue}
 use Rattle.math.proofs.Choice.{and-both}
+use Rattle.bezier.specs.declared.types.Found.{Found}
 use Rattle.easing.specs.declared.answers.Eased.{Eased}
 use Rattle.easing.specs.declared.answers.Eased.the-variants as eased
 use Rattle.frames.specs.Limits.{isTime, frameWithin, framesWithin, beforeAll, noFrame}
@@ -42,12 +43,12 @@ unfolding quickOf valueAtOf trackFrom
 unsure w secs never = go (knownTrack w) (withinOf (trackFrom w)) (ltb 0 (w .count)) _ _ _ refl refl (λ k i s. never (record { known = k; within = i; some = ltb-true 0 (w .count) s }))
   where
     -- a and b are the refusals
-    go : (k i s : Bool) (a b : Eased) (v : Float) → Unsure ≡ quickFrom a → Unsure ≡ quickFrom b → (k ≡ true → i ≡ true → s ≡ true → ⊥)
-        → Unsure ≡ cond k (quickFrom (unless i a (unless s b (eased.Value v)))) Unsure
-    go false i s a b v p q never = refl
-    go true false s a b v p q never = p
-    go true true false a b v p q never = q
-    go true true true a b v p q never = absurd (never refl refl refl)
+    go : (k i s : Bool) (a b : Eased) (f : Found) → Unsure ≡ quickFrom a → Unsure ≡ quickFrom b → (k ≡ true → i ≡ true → s ≡ true → ⊥)
+        → Unsure ≡ cond k (quickFrom (unless i a (unless s b (eased.Value f)))) Unsure
+    go false i s a b f p q never = refl
+    go true false s a b f p q never = p
+    go true true false a b f p q never = q
+    go true true true a b f p q never = absurd (never refl refl refl)
 
 each-known : (l : List LaxKeyframe) → knownKinds l ≡ true → (i : ℕ) → i < length l → isKind (getD l i noWords .easing .kind) ≡ true
 unfolding knownKinds

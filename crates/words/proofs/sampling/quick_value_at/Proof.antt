@@ -132,8 +132,10 @@ quick-value-at-spec =
     let value = c .before .before .is-value .ensures ∙ tested.value w l x (s .loop .i) here in
     let easing = c .before .easing-fits .ensures ∙ tested.easing w l x (s .loop .i) here in
     false≢true (sym (rw (later, value, easing) at (c .if3 .left)))))
-    (λ c. quick-first _ _ _ _ (ended (c .before .before)) (c .if5 .taken))
-    (λ c. quick-last _ _ _ _ (ended (c .before .before .before .before)) (c .before .before .if5 .left) (c .if6 .taken))
+    (λ c κs. search needs)
+    (λ c. quick-first _ _ _ _ (ended (c .before .before .before)) (c .before .if5 .taken) _ (c .plain .ensures))
+    (λ c κs. search needs)
+    (λ c. quick-last _ _ _ _ (ended (c .before .before .before .before .before)) (c .before .before .before .if5 .left) (c .before .if6 .taken) _ (c .plain2 .ensures))
     (λ c.
     let x = ended (c .before .before .before .before) in
     let h = place-found _ _ _ _ x (c .before .before .if5 .left) (c .if6 .left) in
