@@ -166,6 +166,7 @@ pub extern "C" fn lax_tween_run(
         }
         TweenRead::Unknown => LaxRun {
             done: 0,
+            unsettled: 0,
             number: UNKNOWN_WORD,
             tween: w,
         },

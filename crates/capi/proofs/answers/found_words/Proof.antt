@@ -10,8 +10,9 @@ found-words-spec =
     tie.close
     (tie.spec
     (λ c. search needs)
+    (λ c κs. search needs)
     (λ c. search needs)
     (λ c κs. search needs)
     (λ c κs. search needs)
-    (λ c. simp (c .before .a .given .1))
+    (λ c. simp (c .flag-word .ensures, c .before .before .a .given .1))
     (λ c. simp (c .no-found .ensures, c .before .number .ensures, c .before .before .before .a2 .given .1)))
