@@ -47,9 +47,12 @@ module _ (x1 x2 t : Float) (n k : ℕ) where
   unfolding newtonOf
   newton-near u h e = rw (left n k h, e)
 
-  pub newton-flat : (u : Float) → k < n → turnOf x1 x2 t u ≡ Flat → newtonOf x1 x2 t (n - k) (turnOf x1 x2 t u) u ≡ after 1 1 (bisectionOf x1 x2 t)
+  flat : (u : Float) → k < n → turnOf x1 x2 t u ≡ Flat → after 1 1 (bisectionOf x1 x2 t) ≡ newtonOf x1 x2 t (n - k) (turnOf x1 x2 t u) u
   unfolding newtonOf
-  newton-flat u h e = rw (left n k h, e)
+  flat u h e = rw (left n k h, e)
+
+  pub newton-flat : (u : Float) (made : ℕ) → made ≡ k + 1 → k < n → turnOf x1 x2 t u ≡ Flat → after made made (bisectionOf x1 x2 t) ≡ after k k (newtonOf x1 x2 t (n - k) (turnOf x1 x2 t u) u)
+  newton-flat u made m h e = rw m (after-both k k 1 1 (bisectionOf x1 x2 t) ∙ ap (after k k) (flat u h e))
 
   pub newton-next : (u v : Float) → k < n → turnOf x1 x2 t u ≡ Next v → newtonOf x1 x2 t (n - k) (turnOf x1 x2 t u) u ≡ after 1 1 (newtonOf x1 x2 t (n - (k + 1)) (turnOf x1 x2 t v) v)
   unfolding newtonOf
@@ -59,8 +62,8 @@ module _ (x1 x2 t : Float) (n k : ℕ) where
   unfolding newtonOf
   spent u turn e = rw e
 
-  pub newton-spent : (u : Float) (turn : Turn) → n ≡ k → after n n (bisectionOf x1 x2 t) ≡ after k k (newtonOf x1 x2 t (n - k) turn u)
-  newton-spent u turn e = ap (λ (m : ℕ). after m m (bisectionOf x1 x2 t)) e ∙ ap (after k k) (spent u turn (omega arith))
+  pub newton-spent : (u : Float) (turn : Turn) (made : ℕ) → made ≡ k → n ≡ k → after made made (bisectionOf x1 x2 t) ≡ after k k (newtonOf x1 x2 t (n - k) turn u)
+  newton-spent u turn made m e = rw m (ap (after k k) (spent u turn (omega (arith, e))))
 
   pub bisect-near : (s : Span) → k < n → nearOf x1 x2 t (s .u) ≡ true → bisectOf x1 x2 t (n - k) (nearOf x1 x2 t (s .u)) s ≡ after 1 0 (foundAt true (s .u))
   unfolding bisectOf

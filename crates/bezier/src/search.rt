@@ -87,23 +87,26 @@ pub fn solve(x1: f32, x2: f32, t: f32) -> Found
     ensures { λ r. ⌜ r ≡ solveOf x1 x2 t ⌝ }
 {
     let mut u = t;
-    for k in 0..6u32 {
+    let mut made: u32 = 0;
+    while made < 6 {
         match newton_turn(x1, x2, t, u) {
             Turn::Near => {
                 return Found {
                     value: u,
                     settled: true,
-                    xs: k + 1,
-                    derivatives: k,
+                    xs: made + 1,
+                    derivatives: made,
                 };
             }
             Turn::Flat => {
-                return bisect(x1, x2, t, t, k + 1);
+                made += 1;
+                break;
             }
             Turn::Next(v) => {
+                made += 1;
                 u = v;
             }
         }
     }
-    bisect(x1, x2, t, t, 6)
+    bisect(x1, x2, t, t, made)
 }
