@@ -10,5 +10,5 @@ gives-spec =
     (λ c κs. search needs)
     (λ c. search needs)
     (λ c. search needs)
-    (λ c. rw (← c .before .before .before .value-at .ensures, c .before .v .given .1))
+    (λ c. rw (← c .before .before .before .before .value-at .ensures, c .before .before .found .given .1))
     (λ c. rw (← c .before .before .value-at .ensures, c .enum-told .given .1)))
