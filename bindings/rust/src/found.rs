@@ -9,9 +9,8 @@ use crate::Refusal;
 /// use laxombiit::{Easing, Found};
 ///
 /// let steep = Easing::CubicBezier(1.0, 0.0, 0.0, 1.0);
-/// let Found { value, settled, xs, derivatives } = steep.apply(0.45)?;
-/// assert_eq!((value, settled, xs, derivatives), (0.1765354, false, 16, 6));
-/// # Ok::<(), laxombiit::Refusal>(())
+/// let found = steep.apply(0.45).unwrap();
+/// assert_eq!(found, Found { value: 0.17653541, settled: false, xs: 16, derivatives: 6 });
 /// ```
 #[derive(Clone, Copy, Debug, PartialEq)]
 pub struct Found {
