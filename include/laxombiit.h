@@ -127,6 +127,19 @@ typedef struct lax_value {
     float value;
 } lax_value;
 
+/* A value, and the search behind it. LAX_CUBIC_BEZIER alone searches: for the place on its curve whose x
+ * is t. settled is 1 where the last x that it evaluated met the tolerance, 1e-6, and 0 where it ended
+ * without. Where nothing is searched settled is 1 and both counts are 0: every other kind, t of 0 or 1,
+ * a first or a last frame's value, a duration of 0. A settled x is no bound on the error of the value:
+ * where the curve is steep, the value may be off by far more than 1e-6. */
+typedef struct lax_found {
+    uint32_t number;
+    float value;
+    uint32_t settled;     /* 0 or 1 */
+    uint32_t xs;          /* evaluations of x, at most 16 */
+    uint32_t derivatives; /* evaluations of its derivative, at most 6 */
+} lax_found;
+
 typedef struct lax_flag {
     uint32_t number;
     uint32_t flag; /* 0 or 1 */
@@ -158,9 +171,11 @@ typedef struct lax_updated {
 } lax_updated;
 
 /* done: how many steps were taken, and so, where number is not 0, the place of the step that was
- * refused. The tween is as it stood before that step. */
+ * refused. The tween is as it stood before that step. unsettled: how many of the values written are
+ * not settled. */
 typedef struct lax_run {
     size_t done;
+    size_t unsettled;
     uint32_t number;
     lax_tween tween;
 } lax_run;
@@ -200,9 +215,11 @@ typedef struct lax_track_updated {
     lax_track track;
 } lax_track_updated;
 
-/* filled: how many places at the front of the output were written. */
+/* filled: how many places at the front of the output were written. unsettled: how many of those values
+ * are not settled. */
 typedef struct lax_filled {
     size_t filled;
+    size_t unsettled;
     uint32_t number;
 } lax_filled;
 
@@ -211,22 +228,23 @@ typedef char lax_size_of_easing[sizeof(lax_easing) == 24 ? 1 : -1];
 typedef char lax_size_of_loop[sizeof(lax_loop) == 8 ? 1 : -1];
 typedef char lax_size_of_tween[sizeof(lax_tween) == 72 ? 1 : -1];
 typedef char lax_size_of_value[sizeof(lax_value) == 8 ? 1 : -1];
+typedef char lax_size_of_found[sizeof(lax_found) == 20 ? 1 : -1];
 typedef char lax_size_of_flag[sizeof(lax_flag) == 8 ? 1 : -1];
 typedef char lax_size_of_easing_answer[sizeof(lax_easing_answer) == 28 ? 1 : -1];
 typedef char lax_size_of_snapshot[sizeof(lax_snapshot) == 24 ? 1 : -1];
 typedef char lax_size_of_changed[sizeof(lax_changed) == 76 ? 1 : -1];
 typedef char lax_size_of_updated[sizeof(lax_updated) == 84 ? 1 : -1];
-typedef char lax_size_of_run[sizeof(lax_run) == 88 ? 1 : -1];
+typedef char lax_size_of_run[sizeof(lax_run) == 96 ? 1 : -1];
 typedef char lax_size_of_keyframe[sizeof(lax_keyframe) == 32 ? 1 : -1];
 typedef char lax_size_of_track[sizeof(lax_track) == 2072 ? 1 : -1];
 typedef char lax_size_of_track_changed[sizeof(lax_track_changed) == 2076 ? 1 : -1];
 typedef char lax_size_of_track_updated[sizeof(lax_track_updated) == 2080 ? 1 : -1];
-typedef char lax_size_of_filled[sizeof(lax_filled) == 16 ? 1 : -1];
+typedef char lax_size_of_filled[sizeof(lax_filled) == 24 ? 1 : -1];
 
 /* Easings. */
 
 /* The eased progress at t, which is clamped to 0..1. Refuses 1, 2, 3. */
-lax_value lax_easing_apply(lax_easing e, float t);
+lax_found lax_easing_apply(lax_easing e, float t);
 
 /* The same kind with equal parameters; -0 equals 0. Refuses 2, 3, for either side. */
 lax_flag lax_easing_eq(lax_easing x, lax_easing y);
@@ -242,9 +260,9 @@ lax_easing_answer lax_easing_named(uint32_t place);
 /* One second, linear, no delay, scale 1, once; running from its start. Nothing is checked. */
 lax_tween lax_tween_new(float start, float end);
 
-lax_value lax_tween_value(lax_tween t);
+lax_found lax_tween_value(lax_tween t);
 lax_value lax_tween_progress(lax_tween t);       /* of the pass under way, before the easing */
-lax_value lax_tween_eased_progress(lax_tween t);
+lax_found lax_tween_eased_progress(lax_tween t);
 lax_snapshot lax_tween_snapshot(lax_tween t);
 lax_value lax_tween_playback_duration(lax_tween t); /* infinity in the modes without an end */
 
@@ -283,10 +301,10 @@ lax_track_changed lax_track_looping(lax_track t, lax_loop mode);
 
 /* The value at so many seconds; NaN and what is below 0 count as 0, and from the last frame on it
  * is the last value. Refuses 10. */
-lax_value lax_track_value_at(lax_track t, float secs);
+lax_found lax_track_value_at(lax_track t, float secs);
 
 /* The value at the active time. Refuses 10. */
-lax_value lax_track_value(lax_track t);
+lax_found lax_track_value(lax_track t);
 
 /* The values at many times, into the front of out; what lies behind it keeps its numbers. Refuses
  * 10, and 12 where out is shorter than times. */

@@ -1,5 +1,5 @@
 /* A ramp from 10 to 20 in 4 s, there and back twice, sampled each second; then a track of four frames,
- * sampled at many times at once. */
+ * sampled at many times at once; then a steep curve, and whether its search settled. */
 #include <stdio.h>
 
 #include "laxombiit.h"
@@ -47,11 +47,33 @@ static uint32_t sample_track(void)
     return f.number;
 }
 
+static uint32_t ease_steeply(void)
+{
+    const float t[3] = {0.25f, 0.45f, 0.5f};
+    lax_easing steep = lax_easing_named(LAX_CUBIC_BEZIER).easing;
+    int k;
+
+    steep.a = steep.d = 1.0f;
+    steep.b = steep.c = 0.0f;
+    for (k = 0; k < 3; k++) {
+        lax_found f = lax_easing_apply(steep, t[k]);
+        if (f.number != LAX_OK) {
+            return f.number;
+        }
+        printf("eased at %.2f  %.4f  %s, %u x, %u derivatives\n", (double)t[k], (double)f.value,
+               f.settled ? "settled" : "not settled", (unsigned)f.xs, (unsigned)f.derivatives);
+    }
+    return LAX_OK;
+}
+
 int main(void)
 {
     uint32_t number = run_ramp();
     if (number == LAX_OK) {
         number = sample_track();
+    }
+    if (number == LAX_OK) {
+        number = ease_steeply();
     }
     if (number != LAX_OK) {
         printf("refused %u\n", (unsigned)number);

@@ -14,8 +14,14 @@ void check(int holds, const char *file, int line, const char *what);
 
 lax_easing kind(uint32_t k);
 lax_easing steps(uint32_t n);
+lax_easing bezier(float x1, float y1, float x2, float y2);
 int value_is(lax_value v, float x);
 int refused(lax_value v, uint32_t number);
+
+/* Accepted, after such a search. */
+int found_is(lax_found f, float x, uint32_t settled, uint32_t xs, uint32_t derivatives);
+int plain_is(lax_found f, float x); /* after none */
+int not_found(lax_found f, uint32_t number);
 
 void test_easings(void);
 void test_tweens(void);

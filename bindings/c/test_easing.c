@@ -1,30 +1,33 @@
 /* Easings. */
 #include "test.h"
 
-static lax_easing bezier(float x1, float y1, float x2, float y2)
+/* What the search of a Bezier evaluated, and whether it settled. */
+static void searches(void)
 {
-    lax_easing e = kind(LAX_CUBIC_BEZIER);
-    e.a = x1;
-    e.b = y1;
-    e.c = x2;
-    e.d = y2;
-    return e;
+    const lax_easing ease = bezier(0.25f, 0.1f, 0.25f, 1), line = bezier(0, 0, 1, 1), steep = bezier(1, 0, 0, 1);
+    CHECK(found_is(lax_easing_apply(ease, 0.5f), 0.8024034f, 1, 5, 4));
+    CHECK(found_is(lax_easing_apply(steep, 0.45f), 0.17653541f, 0, 16, 6));
+    CHECK(found_is(lax_easing_apply(line, 0.5f), 0.5f, 1, 1, 0));
+    CHECK(plain_is(lax_easing_apply(steep, 0.0f), 0.0f) && plain_is(lax_easing_apply(steep, -0.0f), 0.0f));
+    CHECK(plain_is(lax_easing_apply(steep, 1.0f), 1.0f) && plain_is(lax_easing_apply(steep, 7.0f), 1.0f));
+    CHECK(lax_easing_apply(steep, 0.5000134f).settled == 1);
+    CHECK(not_found(lax_easing_apply(steep, NAN), LAX_PROGRESS_IS_NAN));
 }
 
 void test_easings(void)
 {
     lax_easing slow = kind(LAX_SLOW_MO);
-    CHECK(value_is(lax_easing_apply(kind(LAX_EASE_IN_QUAD), 0.5f), 0.25f));
-    CHECK(value_is(lax_easing_apply(steps(4), 0.1f), 0.25f));
-    CHECK(value_is(lax_easing_apply(bezier(0, 0, 1, 1), 0.5f), 0.5f));
+    CHECK(plain_is(lax_easing_apply(kind(LAX_EASE_IN_QUAD), 0.5f), 0.25f));
+    CHECK(plain_is(lax_easing_apply(steps(4), 0.1f), 0.25f));
+    searches();
     slow.a = 0.5f;
     slow.b = 2.0f;
-    CHECK(value_is(lax_easing_apply(slow, 0.125f), 0.1875f));
-    CHECK(value_is(lax_easing_apply(kind(LAX_LINEAR), INFINITY), 1.0f));
-    CHECK(refused(lax_easing_apply(kind(LAX_LINEAR), NAN), LAX_PROGRESS_IS_NAN));
-    CHECK(refused(lax_easing_apply(kind(LAX_EASE_IN_SINE), 0.5f), LAX_EASING_NOT_SUPPLIED));
-    CHECK(refused(lax_easing_apply(steps(65537), 0.5f), LAX_EASING_PARAMETER));
-    CHECK(refused(lax_easing_apply(kind(38), NAN), LAX_UNKNOWN_WORD));
+    CHECK(plain_is(lax_easing_apply(slow, 0.125f), 0.1875f));
+    CHECK(plain_is(lax_easing_apply(kind(LAX_LINEAR), INFINITY), 1.0f));
+    CHECK(not_found(lax_easing_apply(kind(LAX_LINEAR), NAN), LAX_PROGRESS_IS_NAN));
+    CHECK(not_found(lax_easing_apply(kind(LAX_EASE_IN_SINE), 0.5f), LAX_EASING_NOT_SUPPLIED));
+    CHECK(not_found(lax_easing_apply(steps(65537), 0.5f), LAX_EASING_PARAMETER));
+    CHECK(not_found(lax_easing_apply(kind(38), NAN), LAX_UNKNOWN_WORD));
     CHECK(lax_easing_eq(steps(4), steps(4)).flag == 1);
     CHECK(lax_easing_eq(steps(0), steps(1)).flag == 0);
     CHECK(lax_easing_eq(bezier(-0.0f, 0, 1, 1), bezier(0, 0, 1, 1)).flag == 1);

@@ -64,27 +64,27 @@ static void pushes(void)
 static void samples(void)
 {
     lax_track t = pair(LAX_ONCE, 0);
-    CHECK(value_is(lax_track_value_at(t, 1.0f), 4.0f));
+    CHECK(plain_is(lax_track_value_at(t, 1.0f), 4.0f));
     t = lax_track_push(t, 2.0f, 6.0f).track;
     CHECK(t.count == 2);
-    CHECK(value_is(lax_track_value_at(t, 1.0f), 3.0f));
-    CHECK(value_is(lax_track_value_at(t, NAN), 0.0f));
-    CHECK(value_is(lax_track_value_at(t, INFINITY), 6.0f));
-    CHECK(value_is(lax_track_value_at(t, -0.0f), 0.0f));
-    CHECK(value_is(lax_track_value_at(t, -INFINITY), 0.0f));
+    CHECK(plain_is(lax_track_value_at(t, 1.0f), 3.0f));
+    CHECK(plain_is(lax_track_value_at(t, NAN), 0.0f));
+    CHECK(plain_is(lax_track_value_at(t, INFINITY), 6.0f));
+    CHECK(plain_is(lax_track_value_at(t, -0.0f), 0.0f));
+    CHECK(plain_is(lax_track_value_at(t, -INFINITY), 0.0f));
     t = lax_track_push_eased(t, 0.0f, 0.0f, kind(LAX_EASE_IN_QUAD)).track;
-    CHECK(value_is(lax_track_value_at(t, 1.0f), 1.5f));
+    CHECK(plain_is(lax_track_value_at(t, 1.0f), 1.5f));
     t = lax_track_push_eased(t, 0.0f, 0.0f, steps(4)).track;
-    CHECK(value_is(lax_track_value_at(t, 0.25f), 1.5f));
+    CHECK(plain_is(lax_track_value_at(t, 0.25f), 1.5f));
     t.elapsed = 1.0f;
-    CHECK(value_is(lax_track_value(t), 3.0f));
+    CHECK(plain_is(lax_track_value(t), 3.0f));
     t = lax_track_push(lax_track_new(), 5.0f, 3.0f).track;
-    CHECK(value_is(lax_track_value_at(t, 0.0f), 3.0f) && value_is(lax_track_value_at(t, 9.0f), 3.0f));
-    CHECK(value_is(lax_track_value(t), 3.0f));
+    CHECK(plain_is(lax_track_value_at(t, 0.0f), 3.0f) && plain_is(lax_track_value_at(t, 9.0f), 3.0f));
+    CHECK(plain_is(lax_track_value(t), 3.0f));
     /* a frame's own time is the start of its interval: 1e7 + (0.1 - 1e7) would be 0 */
     t = lax_track_push(pair(LAX_ONCE, 0), 0.0f, 1e7f).track;
     t = lax_track_push(t, 1.0f, 0.1f).track;
-    CHECK(value_is(lax_track_value_at(t, 1.0f), 0.1f));
+    CHECK(plain_is(lax_track_value_at(t, 1.0f), 0.1f));
 }
 
 /* Frames are pushed in no order, until none goes in. */
@@ -97,14 +97,14 @@ static void fills(void)
         t = lax_track_push(t, (float)(37 * k % 64), 10.0f * (float)(37 * k % 64)).track;
     }
     CHECK(t.count == 63);
-    CHECK(value_is(lax_track_value_at(t, 26.5f), 265.0f)); /* the frame at 27 is missing */
+    CHECK(plain_is(lax_track_value_at(t, 26.5f), 265.0f)); /* the frame at 27 is missing */
     t = lax_track_push(t, 27.0f, 270.0f).track;
     CHECK(same(t, ladder(64)));
     for (k = 0; k < 63; k++) {
-        CHECK(value_is(lax_track_value_at(t, (float)k), 10.0f * (float)k));
-        CHECK(value_is(lax_track_value_at(t, (float)k + 0.5f), 10.0f * (float)k + 5.0f));
+        CHECK(plain_is(lax_track_value_at(t, (float)k), 10.0f * (float)k));
+        CHECK(plain_is(lax_track_value_at(t, (float)k + 0.5f), 10.0f * (float)k + 5.0f));
     }
-    CHECK(value_is(lax_track_value_at(t, 63.0f), 630.0f));
+    CHECK(plain_is(lax_track_value_at(t, 63.0f), 630.0f));
     CHECK(kept(lax_track_push(t, 31.5f, 0.0f), LAX_TRACK_FULL, t));
     CHECK(kept(lax_track_push(t, 64.0f, 0.0f), LAX_TRACK_FULL, t));
     CHECK(kept(lax_track_push_eased(t, 64.0f, 0.0f, steps(4)), LAX_TRACK_FULL, t));
@@ -167,7 +167,7 @@ static void reads(void)
     CHECK(value_is(lax_track_playback_duration(t), 6.0f));
     CHECK(value_is(lax_track_active_time(t), 1.0f));
     CHECK(value_is(lax_track_progress(t), 5.0f / 6.0f));
-    CHECK(value_is(lax_track_value(t), 4.0f));
+    CHECK(plain_is(lax_track_value(t), 4.0f));
     CHECK(lax_track_is_complete(t).number == LAX_OK && lax_track_is_complete(t).flag == 0);
     t.complete = 7;
     CHECK(lax_track_is_complete(t).flag == 1);
@@ -191,8 +191,8 @@ static void reads_of_few(void)
     lax_track none = lax_track_new(), one = lax_track_push(none, 4.0f, 1.0f).track;
     lax_track_changed c;
     one.elapsed = 3.0f;
-    CHECK(refused(lax_track_value_at(none, 0.0f), LAX_NO_FRAMES));
-    CHECK(refused(lax_track_value(none), LAX_NO_FRAMES));
+    CHECK(not_found(lax_track_value_at(none, 0.0f), LAX_NO_FRAMES));
+    CHECK(not_found(lax_track_value(none), LAX_NO_FRAMES));
     CHECK(value_is(lax_track_duration(none), 0.0f) && value_is(lax_track_duration(one), 4.0f));
     CHECK(value_is(lax_track_playback_duration(none), 0.0f) && value_is(lax_track_playback_duration(one), 4.0f));
     CHECK(value_is(lax_track_active_time(none), 0.0f) && value_is(lax_track_active_time(one), 3.0f));
@@ -245,9 +245,9 @@ static void updates(void)
     u = lax_track_update(u.track, LIMIT);
     CHECK(u.number == LAX_OK && u.running == 0 && stands(u.track, 6.0f, 3, 1));
     u = lax_track_update(pair(LAX_PING_PONG_TIMES, 0), 2.0f);
-    CHECK(u.running == 0 && stands(u.track, 2.0f, 1, 1) && value_is(lax_track_value(u.track), 8.0f));
+    CHECK(u.running == 0 && stands(u.track, 2.0f, 1, 1) && plain_is(lax_track_value(u.track), 8.0f));
     u = lax_track_update(pair(LAX_PING_PONG_TIMES, 2), 4.0f);
-    CHECK(u.running == 0 && stands(u.track, 4.0f, 2, 1) && value_is(lax_track_value(u.track), 0.0f));
+    CHECK(u.running == 0 && stands(u.track, 4.0f, 2, 1) && plain_is(lax_track_value(u.track), 0.0f));
     u = lax_track_update(t, NAN);
     CHECK(u.number == LAX_OK && u.running == 1 && stands(u.track, 0.0f, 0, 0));
     u = lax_track_update(t, -1.0f);
@@ -273,7 +273,28 @@ static void updates_refuse(void)
     CHECK(stopped(lax_track_update(t, INFINITY), LAX_STEP_TOO_LONG, t));
 }
 
-static int filled(lax_filled f, uint32_t number, size_t n) { return f.number == number && f.filled == n; }
+/* With no search that did not settle. */
+static int filled(lax_filled f, uint32_t number, size_t n)
+{
+    return f.number == number && f.filled == n && f.unsettled == 0;
+}
+
+/* What the easing's search says is handed on, and counted. */
+static void searches(void)
+{
+    const float times[5] = {0.9f, 0.0f, 1.5f, 0.9f, 2.0f};
+    float out[5];
+    lax_track t = lax_track_push_eased(pair(LAX_ONCE, 0), 0.0f, 0.0f, bezier(1, 0, 0, 1)).track;
+    lax_filled f;
+    CHECK(found_is(lax_track_value_at(t, 0.9f), 1.4122833f, 0, 16, 6));
+    CHECK(plain_is(lax_track_value_at(t, 0.0f), 0.0f) && plain_is(lax_track_value_at(t, 2.0f), 8.0f));
+    f = lax_track_values_at(t, times, 5, out, 5);
+    CHECK(f.number == LAX_OK && f.filled == 5 && f.unsettled == 2);
+    CHECK(filled(lax_track_values_at(t, times + 1, 2, out, 5), LAX_OK, 2));
+    CHECK(filled(lax_track_values_at(t, times, 5, out, 4), LAX_OUTPUT_TOO_SHORT, 0));
+    t.elapsed = 0.9f;
+    CHECK(found_is(lax_track_value(t), 1.4122833f, 0, 16, 6));
+}
 
 static void batches(void)
 {
@@ -331,8 +352,8 @@ static void all_refuse(lax_track t, uint32_t number)
     CHECK(kept(lax_track_push(t, NAN, NAN), number, t));
     CHECK(kept(lax_track_push_eased(t, NAN, NAN, kind(LAX_WIGGLE)), number, t));
     CHECK(kept(lax_track_looping(t, mode), number, t));
-    CHECK(refused(lax_track_value_at(t, 1.0f), number));
-    CHECK(refused(lax_track_value(t), number));
+    CHECK(not_found(lax_track_value_at(t, 1.0f), number));
+    CHECK(not_found(lax_track_value(t), number));
     CHECK(filled(lax_track_values_at(t, times, 2, out, 1), number, 0) && out[0] == -1.0f);
     CHECK(refused(lax_track_active_time(t), number));
     CHECK(refused(lax_track_duration(t), number));
@@ -378,7 +399,7 @@ static void unused_words(void)
     longer.count = 3;
     longer.frames[2] = longer.frames[1];
     longer.frames[2].time = 3.0f; /* and value 8 */
-    CHECK(value_is(lax_track_value_at(messy, 1.0f), 4.0f));
+    CHECK(plain_is(lax_track_value_at(messy, 1.0f), 4.0f));
     CHECK(same(lax_track_reset(messy).track, t));
     CHECK(same(lax_track_update(messy, 1.0f).track, moved));
     CHECK(same(lax_track_seek_to(messy, 0.5f).track, moved));
@@ -401,6 +422,7 @@ void test_tracks(void)
     seeks();
     updates();
     updates_refuse();
+    searches();
     batches();
     limits();
     unused_words();

@@ -18,26 +18,50 @@ static void reads(void)
     lax_snapshot now;
     t.easing = kind(LAX_EASE_IN_QUAD);
     t.elapsed = 2.0f;
-    CHECK(value_is(lax_tween_value(t), 12.5f));
+    CHECK(plain_is(lax_tween_value(t), 12.5f));
     CHECK(value_is(lax_tween_progress(t), 0.5f));
-    CHECK(value_is(lax_tween_eased_progress(t), 0.25f));
+    CHECK(plain_is(lax_tween_eased_progress(t), 0.25f));
     CHECK(value_is(lax_tween_playback_duration(t), 12.0f));
     now = lax_tween_snapshot(t);
     CHECK(now.number == LAX_OK && now.elapsed == 2.0f && now.state == LAX_RUNNING);
     t.looping.mode = LAX_FOREVER;
     CHECK(lax_tween_playback_duration(t).value == INFINITY);
     t.time_scale = -1.0f;
-    CHECK(refused(lax_tween_value(t), LAX_RECORD_BREAKS_LIMIT));
+    CHECK(not_found(lax_tween_value(t), LAX_RECORD_BREAKS_LIMIT));
     CHECK(refused(lax_tween_progress(t), LAX_RECORD_BREAKS_LIMIT));
-    CHECK(refused(lax_tween_eased_progress(t), LAX_RECORD_BREAKS_LIMIT));
+    CHECK(not_found(lax_tween_eased_progress(t), LAX_RECORD_BREAKS_LIMIT));
     CHECK(refused(lax_tween_playback_duration(t), LAX_RECORD_BREAKS_LIMIT));
     CHECK(lax_tween_snapshot(t).number == LAX_RECORD_BREAKS_LIMIT && lax_tween_snapshot(t).elapsed == 0.0f);
     t.state = 4;
-    CHECK(refused(lax_tween_value(t), LAX_UNKNOWN_WORD));
+    CHECK(not_found(lax_tween_value(t), LAX_UNKNOWN_WORD));
     CHECK(refused(lax_tween_progress(t), LAX_UNKNOWN_WORD));
-    CHECK(refused(lax_tween_eased_progress(t), LAX_UNKNOWN_WORD));
+    CHECK(not_found(lax_tween_eased_progress(t), LAX_UNKNOWN_WORD));
     CHECK(refused(lax_tween_playback_duration(t), LAX_UNKNOWN_WORD));
     CHECK(lax_tween_snapshot(t).number == LAX_UNKNOWN_WORD);
+}
+
+/* What the easing's search says is handed on. */
+static void searches(void)
+{
+    lax_tween t = ramp(1.0f, LAX_FOREVER, 0);
+    const float step[3] = {0.45f, 0.55f, 0.45f};
+    float value[3];
+    uint32_t folds[3];
+    lax_run r;
+    t.easing = bezier(1, 0, 0, 1);
+    CHECK(plain_is(lax_tween_value(t), 10.0f) && plain_is(lax_tween_eased_progress(t), 0.0f));
+    t.elapsed = 0.45f;
+    CHECK(found_is(lax_tween_value(t), 11.765354f, 0, 16, 6));
+    CHECK(found_is(lax_tween_eased_progress(t), 0.17653541f, 0, 16, 6));
+    r = lax_tween_run(t, step + 1, 1, value, 3, folds, 3);
+    CHECK(r.number == LAX_OK && r.done == 1 && r.unsettled == 0);
+    t.elapsed = 0.0f;
+    r = lax_tween_run(t, step, 3, value, 3, folds, 3);
+    CHECK(r.number == LAX_OK && r.done == 3 && r.unsettled == 2);
+    r = lax_tween_run(t, step, 3, value, 3, folds, 2);
+    CHECK(r.number == LAX_OUTPUT_TOO_SHORT && r.done == 0 && r.unsettled == 0);
+    t.duration = 0.0f;
+    CHECK(plain_is(lax_tween_value(t), 20.0f) && plain_is(lax_tween_eased_progress(t), 1.0f));
 }
 
 typedef lax_changed (*change)(lax_tween);
@@ -105,6 +129,7 @@ static void runs(void)
     value[1] = -2.0f;
     r = lax_tween_run(t, step, 3, value, 4, folds, 4);
     CHECK(r.number == LAX_STEP_TOO_LONG && r.done == 1 && r.tween.elapsed == 1.0f && value[1] == -2.0f);
+    CHECK(r.unsettled == 0);
     r = lax_tween_run(t, step, 3, value, 2, folds, 4);
     CHECK(r.number == LAX_OUTPUT_TOO_SHORT && r.done == 0 && same(r.tween, t));
     r = lax_tween_run(t, step, 3, value, 4, folds, 2);
@@ -120,6 +145,7 @@ static void runs(void)
 void test_tweens(void)
 {
     reads();
+    searches();
     changes();
     updates();
     runs();

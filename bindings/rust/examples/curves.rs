@@ -30,10 +30,10 @@ fn name(easing: &Easing) -> String {
 
 /// The line through the samples. Steps jumps where a step begins, and is level up to the next sample.
 fn path(easing: &Easing) -> Result<String, Refusal> {
-    let mut path = format!("M{} {}", across(0.0), up(easing.apply(0.0)?));
+    let mut path = format!("M{} {}", across(0.0), up(easing.apply(0.0)?.value));
     for k in 1..=SAMPLES {
         let t = k as f32 / SAMPLES as f32;
-        let (x, y) = (across(t), up(easing.apply(t)?));
+        let (x, y) = (across(t), up(easing.apply(t)?.value));
         path += &match easing {
             Easing::Steps(_) => format!("V{y}H{x}"),
             _ => format!("L{x} {y}"),

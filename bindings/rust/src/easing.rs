@@ -1,5 +1,5 @@
 use crate::ffi;
-use crate::Refusal;
+use crate::{Found, Refusal};
 
 /// A curve from 0 to 1. The kinds of Sine, Expo and Elastic, `RoughEase`, `Wiggle` and `ExpoScale`
 /// have a name and no curve: they are refused.
@@ -105,18 +105,18 @@ pub enum Easing {
 }
 
 impl Easing {
-    /// The eased progress at `t`, which is clamped to 0..1. Refused: 1 where `t` is NaN, 2 for a
-    /// kind without a curve, 3 for a parameter beyond its limit.
+    /// The eased progress at `t`, which is clamped to 0..1, and the search behind it. Refused: 1
+    /// where `t` is NaN, 2 for a kind without a curve, 3 for a parameter beyond its limit.
     ///
     /// ```
     /// use laxombiit::{Easing, Refusal};
     ///
-    /// assert_eq!(Easing::EaseInQuad.apply(0.5), Ok(0.25));
+    /// assert_eq!(Easing::EaseInQuad.apply(0.5)?.value, 0.25);
     /// assert_eq!(Easing::EaseInSine.apply(0.5), Err(Refusal::EasingNotSupplied));
+    /// # Ok::<(), Refusal>(())
     /// ```
-    pub fn apply(&self, t: f32) -> Result<f32, Refusal> {
-        let a = unsafe { ffi::lax_easing_apply(self.words(), t) };
-        Refusal::or(a.number, a.value)
+    pub fn apply(&self, t: f32) -> Result<Found, Refusal> {
+        Found::from_words(unsafe { ffi::lax_easing_apply(self.words(), t) })
     }
 
     /// Whether `other` is the same kind with equal parameters. Unlike `==` this is the library's

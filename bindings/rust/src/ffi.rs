@@ -42,6 +42,15 @@ pub struct LaxValue {
 }
 
 #[repr(C)]
+pub struct LaxFound {
+    pub number: u32,
+    pub value: f32,
+    pub settled: u32,
+    pub xs: u32,
+    pub derivatives: u32,
+}
+
+#[repr(C)]
 pub struct LaxFlag {
     pub number: u32,
     pub flag: u32,
@@ -80,6 +89,7 @@ pub struct LaxUpdated {
 #[repr(C)]
 pub struct LaxRun {
     pub done: usize,
+    pub unsettled: usize,
     pub number: u32,
     pub tween: LaxTween,
 }
@@ -121,6 +131,7 @@ pub struct LaxTrackUpdated {
 #[repr(C)]
 pub struct LaxFilled {
     pub filled: usize,
+    pub unsettled: usize,
     pub number: u32,
 }
 
@@ -130,29 +141,30 @@ const _: () = {
     assert!(size_of::<LaxLoop>() == 8);
     assert!(size_of::<LaxTween>() == 72);
     assert!(size_of::<LaxValue>() == 8);
+    assert!(size_of::<LaxFound>() == 20);
     assert!(size_of::<LaxFlag>() == 8);
     assert!(size_of::<LaxEasingAnswer>() == 28);
     assert!(size_of::<LaxSnapshot>() == 24);
     assert!(size_of::<LaxChanged>() == 76);
     assert!(size_of::<LaxUpdated>() == 84);
-    assert!(size_of::<LaxRun>() == 88);
+    assert!(size_of::<LaxRun>() == 96);
     assert!(size_of::<LaxKeyframe>() == 32);
     assert!(size_of::<LaxTrack>() == 2072);
     assert!(size_of::<LaxTrackChanged>() == 2076);
     assert!(size_of::<LaxTrackUpdated>() == 2080);
-    assert!(size_of::<LaxFilled>() == 16);
+    assert!(size_of::<LaxFilled>() == 24);
 };
 
 extern "C" {
-    pub fn lax_easing_apply(e: LaxEasing, t: f32) -> LaxValue;
+    pub fn lax_easing_apply(e: LaxEasing, t: f32) -> LaxFound;
     pub fn lax_easing_eq(x: LaxEasing, y: LaxEasing) -> LaxFlag;
     pub fn lax_easing_is_supplied(e: LaxEasing) -> LaxFlag;
     pub fn lax_easing_named(place: u32) -> LaxEasingAnswer;
 
     pub fn lax_tween_new(start: f32, end: f32) -> LaxTween;
-    pub fn lax_tween_value(t: LaxTween) -> LaxValue;
+    pub fn lax_tween_value(t: LaxTween) -> LaxFound;
     pub fn lax_tween_progress(t: LaxTween) -> LaxValue;
-    pub fn lax_tween_eased_progress(t: LaxTween) -> LaxValue;
+    pub fn lax_tween_eased_progress(t: LaxTween) -> LaxFound;
     pub fn lax_tween_snapshot(t: LaxTween) -> LaxSnapshot;
     pub fn lax_tween_playback_duration(t: LaxTween) -> LaxValue;
     pub fn lax_tween_reset(t: LaxTween) -> LaxChanged;
@@ -175,8 +187,8 @@ extern "C" {
     pub fn lax_track_push(t: LaxTrack, time: f32, value: f32) -> LaxTrackChanged;
     pub fn lax_track_push_eased(t: LaxTrack, time: f32, value: f32, e: LaxEasing) -> LaxTrackChanged;
     pub fn lax_track_looping(t: LaxTrack, mode: LaxLoop) -> LaxTrackChanged;
-    pub fn lax_track_value_at(t: LaxTrack, secs: f32) -> LaxValue;
-    pub fn lax_track_value(t: LaxTrack) -> LaxValue;
+    pub fn lax_track_value_at(t: LaxTrack, secs: f32) -> LaxFound;
+    pub fn lax_track_value(t: LaxTrack) -> LaxFound;
     pub fn lax_track_values_at(
         t: LaxTrack,
         times: *const f32,

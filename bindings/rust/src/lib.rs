@@ -6,14 +6,16 @@
 
 mod easing;
 mod ffi;
+mod found;
 mod refusal;
 mod track;
 mod tween;
 
 pub use easing::Easing;
+pub use found::Found;
 pub use refusal::Refusal;
-pub use track::{Keyframe, Track};
-pub use tween::{Loop, Stopped, Tween, TweenSnapshot, TweenState, Updated};
+pub use track::{Filled, Keyframe, Track};
+pub use tween::{Loop, Ran, Stopped, Tween, TweenSnapshot, TweenState, Updated};
 
 #[cfg(doctest)]
 #[doc = include_str!("../README.md")]

@@ -1,7 +1,7 @@
 use std::fmt;
 
 use crate::ffi;
-use crate::{Easing, Loop, Refusal};
+use crate::{Easing, Found, Loop, Refusal};
 
 /// A value at a time. `easing` goes from this frame to the next.
 #[derive(Clone, Copy, Debug, PartialEq)]
@@ -14,6 +14,15 @@ pub struct Keyframe {
     pub easing: Easing,
 }
 
+/// What many samples at once answer.
+#[derive(Debug, PartialEq)]
+pub struct Filled<'a> {
+    /// The values: the front of the output, one for each time.
+    pub values: &'a mut [f32],
+    /// How many of them are not settled.
+    pub unsettled: usize,
+}
+
 /// A value along frames: animato's `KeyframeTrack`, with at most [`Track::FRAMES`] frames.
 ///
 /// ```
@@ -22,7 +31,7 @@ pub struct Keyframe {
 /// let mut track = Track::new();
 /// track.push_eased(0.0, 0.0, Easing::EaseInQuad)?.push(2.0, 8.0)?.looping(Loop::PingPong)?;
 /// assert!(track.update(1.0)?);
-/// assert_eq!(track.value()?, 2.0);
+/// assert_eq!(track.value()?.value, 2.0);
 /// assert!(track.update(2.5)?);
 /// assert_eq!(track.active_time()?, 0.5);
 /// # Ok::<(), laxombiit::Refusal>(())
@@ -86,7 +95,7 @@ impl Track {
     /// assert_eq!(track.push(-1.0, 3.0).err(), Some(Refusal::TrackLimit));
     /// track.push(2.0, 6.0)?;
     /// assert_eq!(track.frames().len(), 2);
-    /// assert_eq!(track.value_at(1.0)?, 3.0);
+    /// assert_eq!(track.value_at(1.0)?.value, 3.0);
     /// # Ok::<(), Refusal>(())
     /// ```
     pub fn push(&mut self, time: f32, value: f32) -> Result<&mut Track, Refusal> {
@@ -107,22 +116,21 @@ impl Track {
         self.take(a)
     }
 
-    /// The value at so many seconds. NaN and what is below 0 count as 0; from the last frame on it
-    /// is the last value. Refused: 10 where there are no frames.
-    pub fn value_at(&self, secs: f32) -> Result<f32, Refusal> {
-        let a = unsafe { ffi::lax_track_value_at(self.words, secs) };
-        Refusal::or(a.number, a.value)
+    /// The value at so many seconds, and the search behind its easing. NaN and what is below 0
+    /// count as 0; from the last frame on it is the last value. Refused: 10 where there are no
+    /// frames.
+    pub fn value_at(&self, secs: f32) -> Result<Found, Refusal> {
+        Found::from_words(unsafe { ffi::lax_track_value_at(self.words, secs) })
     }
 
-    /// The value at the active time. Refused: 10 where there are no frames.
-    pub fn value(&self) -> Result<f32, Refusal> {
-        let a = unsafe { ffi::lax_track_value(self.words) };
-        Refusal::or(a.number, a.value)
+    /// The same at the active time. Refused: 10 where there are no frames.
+    pub fn value(&self) -> Result<Found, Refusal> {
+        Found::from_words(unsafe { ffi::lax_track_value(self.words) })
     }
 
-    /// The values at many times: the front of `out`, one for each time. What lies behind it keeps
-    /// its numbers. Refused, and nothing written: 10 where there are no frames, 12 where `out` is
-    /// shorter than `times`.
+    /// The values at many times, and how many of them are not settled. What lies behind the front
+    /// of `out` keeps its numbers. Refused, and nothing written: 10 where there are no frames, 12
+    /// where `out` is shorter than `times`.
     ///
     /// ```
     /// use laxombiit::Track;
@@ -130,15 +138,16 @@ impl Track {
     /// let mut track = Track::new();
     /// track.push(0.0, 0.0)?.push(2.0, 8.0)?;
     /// let mut out = [-1.0; 4];
-    /// assert_eq!(track.values_at(&[0.5, 1.0, 9.0], &mut out)?, [2.0, 4.0, 8.0]);
+    /// let filled = track.values_at(&[0.5, 1.0, 9.0], &mut out)?;
+    /// assert_eq!((&filled.values[..], filled.unsettled), (&[2.0, 4.0, 8.0][..], 0));
     /// assert_eq!(out, [2.0, 4.0, 8.0, -1.0]);
     /// # Ok::<(), laxombiit::Refusal>(())
     /// ```
-    pub fn values_at<'a>(&self, times: &[f32], out: &'a mut [f32]) -> Result<&'a mut [f32], Refusal> {
+    pub fn values_at<'a>(&self, times: &[f32], out: &'a mut [f32]) -> Result<Filled<'a>, Refusal> {
         let a = unsafe {
             ffi::lax_track_values_at(self.words, times.as_ptr(), times.len(), out.as_mut_ptr(), out.len())
         };
-        Refusal::or(a.number, &mut out[..a.filled])
+        Refusal::or(a.number, Filled { values: &mut out[..a.filled], unsettled: a.unsettled })
     }
 
     /// Moves on by `step` seconds, and says whether the track still runs. NaN and what is below 0
@@ -152,7 +161,7 @@ impl Track {
     /// let mut track = Track::new();
     /// track.push(0.0, 0.0)?.push(1.0, 100.0)?;
     /// assert!(track.update(0.25)?);
-    /// assert_eq!(track.value()?, 25.0);
+    /// assert_eq!(track.value()?.value, 25.0);
     /// assert!(!track.update(3.25)?);
     /// assert_eq!((track.elapsed(), track.loop_count()), (1.0, 3));
     /// # Ok::<(), laxombiit::Refusal>(())

@@ -1,5 +1,5 @@
 use crate::ffi;
-use crate::{Easing, Refusal};
+use crate::{Easing, Found, Refusal};
 
 /// What happens at the end of a pass.
 #[derive(Clone, Copy, Debug, PartialEq, Eq)]
@@ -38,7 +38,7 @@ pub enum TweenState {
 /// let update = ramp.update(5.0)?;
 /// assert_eq!(update.folds, 2);
 /// assert!(!update.running);
-/// assert_eq!(ramp.value()?, 10.0);
+/// assert_eq!(ramp.value()?.value, 10.0);
 /// # Ok::<(), laxombiit::Refusal>(())
 /// ```
 #[derive(Clone, Copy, Debug, PartialEq)]
@@ -93,11 +93,20 @@ pub struct Updated {
     pub running: bool,
 }
 
+/// What a run of steps reports.
+#[derive(Clone, Copy, Debug, PartialEq, Eq)]
+pub struct Ran {
+    /// How many of the values written are not settled.
+    pub unsettled: usize,
+}
+
 /// Where and why a run of steps stopped.
 #[derive(Clone, Copy, Debug, PartialEq, Eq)]
 pub struct Stopped {
     /// The place of the step that was refused.
     pub place: usize,
+    /// How many of the values written before it are not settled.
+    pub unsettled: usize,
     /// Why.
     pub refusal: Refusal,
 }
@@ -109,10 +118,9 @@ impl Tween {
         Tween::from_words(unsafe { ffi::lax_tween_new(start, end) })
     }
 
-    /// The value at this time.
-    pub fn value(&self) -> Result<f32, Refusal> {
-        let a = unsafe { ffi::lax_tween_value(self.words()) };
-        Refusal::or(a.number, a.value)
+    /// The value at this time, and the search behind its easing.
+    pub fn value(&self) -> Result<Found, Refusal> {
+        Found::from_words(unsafe { ffi::lax_tween_value(self.words()) })
     }
 
     /// How far along in the pass under way, from 0 to 1.
@@ -121,10 +129,9 @@ impl Tween {
         Refusal::or(a.number, a.value)
     }
 
-    /// The same after the easing.
-    pub fn eased_progress(&self) -> Result<f32, Refusal> {
-        let a = unsafe { ffi::lax_tween_eased_progress(self.words()) };
-        Refusal::or(a.number, a.value)
+    /// The same after the easing, and the search behind it.
+    pub fn eased_progress(&self) -> Result<Found, Refusal> {
+        Found::from_words(unsafe { ffi::lax_tween_eased_progress(self.words()) })
     }
 
     /// What moves.
@@ -197,19 +204,20 @@ impl Tween {
     }
 
     /// Many updates in one call: the value after each step goes into `values`, its folds into
-    /// `folds`. Refused with 12, and nothing written, where either is shorter than `steps`. It
-    /// stops at the first step that is refused; the tween is then as it stood before that step,
-    /// and the lists are unwritten from its place on.
+    /// `folds`. It answers how many of the values are not settled. Refused with 12, and nothing
+    /// written, where either is shorter than `steps`. It stops at the first step that is refused;
+    /// the tween is then as it stood before that step, and the lists are unwritten from its place
+    /// on.
     ///
     /// ```
-    /// use laxombiit::{Loop, Tween};
+    /// use laxombiit::{Loop, Ran, Tween};
     ///
     /// let mut t = Tween { duration: 4.0, looping: Loop::Forever, ..Tween::new(0.0, 8.0) };
     /// let (mut values, mut folds) = ([0.0; 3], [0; 3]);
-    /// t.run(&[1.0, 2.0, 3.0], &mut values, &mut folds).unwrap();
+    /// assert_eq!(t.run(&[1.0, 2.0, 3.0], &mut values, &mut folds), Ok(Ran { unsettled: 0 }));
     /// assert_eq!((values, folds), ([2.0, 6.0, 4.0], [0, 0, 1]));
     /// ```
-    pub fn run(&mut self, steps: &[f32], values: &mut [f32], folds: &mut [u32]) -> Result<(), Stopped> {
+    pub fn run(&mut self, steps: &[f32], values: &mut [f32], folds: &mut [u32]) -> Result<Ran, Stopped> {
         let a = unsafe {
             ffi::lax_tween_run(
                 self.words(),
@@ -223,8 +231,8 @@ impl Tween {
         };
         *self = Tween::from_words(a.tween);
         match a.number {
-            0 => Ok(()),
-            n => Err(Stopped { place: a.done, refusal: Refusal::from_number(n) }),
+            0 => Ok(Ran { unsettled: a.unsettled }),
+            n => Err(Stopped { place: a.done, unsettled: a.unsettled, refusal: Refusal::from_number(n) }),
         }
     }
 

@@ -1,23 +1,26 @@
 //! Every call of an easing: ordinary, edge and refused input.
+mod common;
+
+use common::plain;
 use laxombiit::{Easing, Refusal};
 
 #[test]
 fn apply() {
-    assert_eq!(Easing::Linear.apply(0.25), Ok(0.25));
-    assert_eq!(Easing::EaseInOutCubic.apply(0.25), Ok(0.0625));
-    assert_eq!(Easing::Steps(4).apply(0.1), Ok(0.25));
-    assert_eq!(Easing::Steps(0).apply(0.5), Ok(1.0));
-    assert_eq!(Easing::CubicBezier(0.0, 0.0, 1.0, 1.0).apply(0.5), Ok(0.5));
-    assert_eq!(Easing::SlowMo { linear_ratio: 0.5, power: 2.0 }.apply(0.125), Ok(0.1875));
-    assert_eq!(Easing::EaseOutBounce.apply(0.25), Ok(0.47265625));
+    assert_eq!(Easing::Linear.apply(0.25), plain(0.25));
+    assert_eq!(Easing::EaseInOutCubic.apply(0.25), plain(0.0625));
+    assert_eq!(Easing::Steps(4).apply(0.1), plain(0.25));
+    assert_eq!(Easing::Steps(0).apply(0.5), plain(1.0));
+    assert_eq!(Easing::CubicBezier(0.0, 0.0, 1.0, 1.0).apply(0.5).unwrap().value, 0.5);
+    assert_eq!(Easing::SlowMo { linear_ratio: 0.5, power: 2.0 }.apply(0.125), plain(0.1875));
+    assert_eq!(Easing::EaseOutBounce.apply(0.25), plain(0.47265625));
 }
 
 #[test]
 fn apply_clamps() {
     for (t, end) in [(-3.0, 0.0), (f32::NEG_INFINITY, 0.0), (3.0, 1.0), (f32::INFINITY, 1.0)] {
-        assert_eq!(Easing::EaseInQuad.apply(t), Ok(end));
+        assert_eq!(Easing::EaseInQuad.apply(t), plain(end));
     }
-    assert!(Easing::Linear.apply(-0.0).unwrap().is_sign_negative());
+    assert!(Easing::Linear.apply(-0.0).unwrap().value.is_sign_negative());
 }
 
 #[test]
@@ -42,7 +45,7 @@ fn names() {
     for e in named {
         let ends = (e.apply(0.0), e.apply(1.0));
         if e.is_supplied() {
-            assert_eq!(ends, (Ok(0.0), Ok(1.0)), "{e:?}");
+            assert_eq!(ends, (plain(0.0), plain(1.0)), "{e:?}");
         } else {
             assert_eq!(ends, (Err(Refusal::EasingNotSupplied), Err(Refusal::EasingNotSupplied)), "{e:?}");
         }

@@ -1,5 +1,8 @@
 //! Every call of a tween: ordinary, edge and refused input.
-use laxombiit::{Easing, Loop, Refusal, Stopped, Tween, TweenState, Updated};
+mod common;
+
+use common::plain;
+use laxombiit::{Easing, Loop, Ran, Refusal, Stopped, Tween, TweenState, Updated};
 
 fn ramp(duration: f32, looping: Loop) -> Tween {
     Tween { duration, looping, ..Tween::new(10.0, 20.0) }
@@ -24,10 +27,10 @@ fn reads() {
     t.easing = Easing::EaseInQuad;
     t.elapsed = 2.0;
     assert_eq!(t.progress(), Ok(0.5));
-    assert_eq!(t.eased_progress(), Ok(0.25));
-    assert_eq!(t.value(), Ok(12.5));
+    assert_eq!(t.eased_progress(), plain(0.25));
+    assert_eq!(t.value(), plain(12.5));
     t.ping_pong_reverse = true;
-    assert_eq!(t.value(), Ok(17.5));
+    assert_eq!(t.value(), plain(17.5));
     assert_eq!(t.playback_duration(), Ok(12.0));
     assert_eq!(ramp(4.0, Loop::PingPong).playback_duration(), Ok(f32::INFINITY));
     let now = t.snapshot().unwrap();
@@ -37,7 +40,7 @@ fn reads() {
 #[test]
 fn reads_at_duration_0() {
     let t = ramp(0.0, Loop::Once);
-    assert_eq!((t.value(), t.progress(), t.eased_progress()), (Ok(20.0), Ok(1.0), Ok(1.0)));
+    assert_eq!((t.value(), t.progress(), t.eased_progress()), (plain(20.0), Ok(1.0), plain(1.0)));
 }
 
 #[test]
@@ -133,7 +136,7 @@ fn run() {
         u.update(step).unwrap();
     }
     assert_eq!(t, u);
-    assert_eq!(t.run(&[], &mut [], &mut []), Ok(()));
+    assert_eq!(t.run(&[], &mut [], &mut []), Ok(Ran { unsettled: 0 }));
     assert_eq!(t, u);
 }
 
@@ -142,13 +145,13 @@ fn run_stops() {
     let mut t = ramp(4.0, Loop::Forever);
     let (mut values, mut folds) = ([-1.0; 3], [9; 3]);
     let stopped = t.run(&[1.0, f32::INFINITY, 1.0], &mut values, &mut folds);
-    assert_eq!(stopped, Err(Stopped { place: 1, refusal: Refusal::StepTooLong }));
+    assert_eq!(stopped, Err(Stopped { place: 1, unsettled: 0, refusal: Refusal::StepTooLong }));
     assert_eq!((t.elapsed, values, folds), (1.0, [12.5, -1.0, -1.0], [0, 9, 9]));
     let mut u = ramp(4.0, Loop::Forever);
-    let short = Err(Stopped { place: 0, refusal: Refusal::OutputTooShort });
+    let short = Err(Stopped { place: 0, unsettled: 0, refusal: Refusal::OutputTooShort });
     assert_eq!(u.run(&[1.0, 1.0], &mut [0.0], &mut [0, 0]), short);
     assert_eq!(u.run(&[1.0, 1.0], &mut [0.0, 0.0], &mut [0]), short);
     assert_eq!(u, ramp(4.0, Loop::Forever));
-    let refused = Err(Stopped { place: 0, refusal: Refusal::RecordBreaksLimit });
+    let refused = Err(Stopped { place: 0, unsettled: 0, refusal: Refusal::RecordBreaksLimit });
     assert_eq!(broken().run(&[1.0, 1.0], &mut [0.0], &mut [0, 0]), refused);
 }

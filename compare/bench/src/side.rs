@@ -1,5 +1,5 @@
 //! One side of a case: the calls that are timed, and the checksum of their answers.
-use crate::words::LaxValue;
+use crate::words::LaxFound;
 
 pub trait Side {
     /// One pass over the inputs.
@@ -26,7 +26,7 @@ impl Answer for Option<f32> {
     }
 }
 
-impl Answer for LaxValue {
+impl Answer for LaxFound {
     /// A refusal's number stands above the value, so that it shows.
     fn bits(self) -> u64 {
         self.value.bits() | u64::from(self.number) << 32

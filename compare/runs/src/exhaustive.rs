@@ -2,9 +2,13 @@
 //! noted in a file, with the hashes of the archive and of the sources, and is left out the next time.
 use crate::compared;
 use crate::cores::on_all_cores;
+use crate::difference::same;
 use crate::ffi::lax_easing_apply;
 use crate::meaning;
 use crate::rules::is_one_of_twelve;
+use crate::search;
+use crate::subjects::found;
+use crate::words::{LaxEasing, LaxFound, LaxValue};
 use oracle::Easing;
 use std::fs::{self, OpenOptions};
 use std::io::Write;
@@ -55,12 +59,22 @@ fn note(line: &str) {
     }
 }
 
+/// What the Rust says, and the search written again.
+fn expected(easing: &Easing, words: &LaxEasing, t: f32) -> LaxFound {
+    found(LaxValue { number: 0, value: easing.apply(t) }, || search::of_easing(words, t))
+}
+
 fn show(easing: &Easing, bits: u32) {
-    let t = f32::from_bits(bits);
-    let ours = lax_easing_apply(meaning::easing_words(easing), t);
+    let (words, t) = (meaning::easing_words(easing), f32::from_bits(bits));
     println!("{}: difference at 0x{bits:08x} ({t:?})", name(easing));
-    println!("    ours:     number {}, 0x{:08x} ({:?})", ours.number, ours.value.to_bits(), ours.value);
-    println!("    expected: number 0, 0x{:08x} ({:?})", easing.apply(t).to_bits(), easing.apply(t));
+    println!("    ours:     {}", shown(lax_easing_apply(words, t)));
+    println!("    expected: {}", shown(expected(easing, &words, t)));
+}
+
+fn shown(found: LaxFound) -> String {
+    let LaxFound { number, value, settled, xs, derivatives } = found;
+    let search = format!("settled {settled}, {xs} x, {derivatives} derivatives");
+    format!("number {number}, 0x{:08x} ({value:?}), {search}", value.to_bits())
 }
 
 /// The bits of the least t whose answers differ; u32::MAX where there is none.
@@ -82,9 +96,7 @@ fn first_in(easing: &Easing, from: u32) -> u32 {
     let words = meaning::easing_words(easing);
     let differs = |bits: &u32| {
         let t = f32::from_bits(*bits);
-        let (ours, expected) = (lax_easing_apply(words, t), easing.apply(t));
-        // a zero of either sign counts as equal
-        ours.number != 0 || ours.value.to_bits() != expected.to_bits() && (ours.value, expected) != (0.0, 0.0)
+        same("easing apply", &lax_easing_apply(words, t), &expected(easing, &words, t)).is_err()
     };
     (from..=ONE.min(from + PIECE - 1)).find(differs).unwrap_or(u32::MAX)
 }

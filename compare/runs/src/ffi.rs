@@ -3,15 +3,15 @@
 use crate::words::*;
 
 unsafe extern "C" {
-    pub safe fn lax_easing_apply(e: LaxEasing, t: f32) -> LaxValue;
+    pub safe fn lax_easing_apply(e: LaxEasing, t: f32) -> LaxFound;
     pub safe fn lax_easing_eq(x: LaxEasing, y: LaxEasing) -> LaxFlag;
     pub safe fn lax_easing_is_supplied(e: LaxEasing) -> LaxFlag;
     pub safe fn lax_easing_named(place: u32) -> LaxEasingAnswer;
 
     pub safe fn lax_tween_new(start: f32, end: f32) -> LaxTween;
-    pub safe fn lax_tween_value(t: LaxTween) -> LaxValue;
+    pub safe fn lax_tween_value(t: LaxTween) -> LaxFound;
     pub safe fn lax_tween_progress(t: LaxTween) -> LaxValue;
-    pub safe fn lax_tween_eased_progress(t: LaxTween) -> LaxValue;
+    pub safe fn lax_tween_eased_progress(t: LaxTween) -> LaxFound;
     pub safe fn lax_tween_snapshot(t: LaxTween) -> LaxSnapshot;
     pub safe fn lax_tween_playback_duration(t: LaxTween) -> LaxValue;
     pub safe fn lax_tween_reset(t: LaxTween) -> LaxChanged;
@@ -34,8 +34,8 @@ unsafe extern "C" {
     pub safe fn lax_track_push(t: LaxTrack, time: f32, value: f32) -> LaxTrackChanged;
     pub safe fn lax_track_push_eased(t: LaxTrack, time: f32, value: f32, e: LaxEasing) -> LaxTrackChanged;
     pub safe fn lax_track_looping(t: LaxTrack, mode: LaxLoop) -> LaxTrackChanged;
-    pub safe fn lax_track_value_at(t: LaxTrack, secs: f32) -> LaxValue;
-    pub safe fn lax_track_value(t: LaxTrack) -> LaxValue;
+    pub safe fn lax_track_value_at(t: LaxTrack, secs: f32) -> LaxFound;
+    pub safe fn lax_track_value(t: LaxTrack) -> LaxFound;
     fn lax_track_values_at(
         t: LaxTrack,
         times: *const f32,

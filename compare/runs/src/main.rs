@@ -13,6 +13,7 @@ mod power;
 mod random;
 mod rules;
 mod runner;
+mod search;
 mod shrink;
 mod subjects;
 mod tally;

@@ -167,6 +167,12 @@ macro_rules! answer {
 }
 
 answer!(LaxValue { value: f32, Float; });
+answer!(LaxFound {
+    value: f32, Float;
+    settled: u32, Whole;
+    xs: u32, Whole;
+    derivatives: u32, Whole;
+});
 answer!(LaxFlag { flag: u32, Whole; });
 answer!(LaxEasingAnswer {} easing: LaxEasing);
 answer!(LaxSnapshot {
@@ -185,6 +191,7 @@ answer!(LaxTrackUpdated { running: u32, Whole; } track: LaxTrack);
 #[derive(Clone, Copy)]
 pub struct LaxRun {
     pub done: usize,
+    pub unsettled: usize,
     pub number: u32,
     pub tween: LaxTween,
 }
@@ -193,6 +200,7 @@ pub struct LaxRun {
 #[derive(Clone, Copy)]
 pub struct LaxFilled {
     pub filled: usize,
+    pub unsettled: usize,
     pub number: u32,
 }
 
@@ -201,12 +209,13 @@ const _: () = {
     assert!(size_of::<LaxTween>() == 72);
     assert!(size_of::<LaxKeyframe>() == 32);
     assert!(size_of::<LaxTrack>() == 2072);
+    assert!(size_of::<LaxFound>() == 20);
     assert!(size_of::<LaxEasingAnswer>() == 28);
     assert!(size_of::<LaxSnapshot>() == 24);
     assert!(size_of::<LaxChanged>() == 76);
     assert!(size_of::<LaxUpdated>() == 84);
     assert!(size_of::<LaxTrackChanged>() == 2076);
     assert!(size_of::<LaxTrackUpdated>() == 2080);
-    assert!(size_of::<LaxRun>() == 88);
-    assert!(size_of::<LaxFilled>() == 16);
+    assert!(size_of::<LaxRun>() == 96);
+    assert!(size_of::<LaxFilled>() == 24);
 };

@@ -1,7 +1,9 @@
-use crate::difference::{Difference, answered};
+use crate::difference::{Difference, answered, must};
 use crate::ffi::*;
 use crate::meaning;
 use crate::rules;
+use crate::search;
+use crate::subjects::found;
 use crate::words::*;
 use oracle::Easing;
 
@@ -29,11 +31,19 @@ impl EasingCall {
     pub fn check(&self) -> Result<u32, Difference> {
         let name = self.name();
         Ok(match self {
-            Apply(e, t) => answered(name, lax_easing_apply(*e, *t), applied(e, *t))?.number,
+            Apply(e, t) => self.apply(e, *t)?,
             Eq(x, y) => answered(name, lax_easing_eq(*x, *y), equal(x, y))?.number,
             IsSupplied(e) => answered(name, lax_easing_is_supplied(*e), supplied(e))?.number,
             Named(place) => answered(name, lax_easing_named(*place), named(*place))?.number,
         })
+    }
+
+    fn apply(&self, e: &LaxEasing, t: f32) -> Result<u32, Difference> {
+        let (name, expected) = (self.name(), applied(e, t));
+        let ours = answered(name, lax_easing_apply(*e, t), found(expected, || search::of_easing(e, t)))?;
+        let same = || search::value(e, t).is_none_or(|value| value.to_bits() == expected.value.to_bits());
+        must(&format!("{name}: the search written again is the Rust's"), expected.number != 0 || same())?;
+        Ok(ours.number)
     }
 }
 

@@ -2,7 +2,8 @@ use crate::difference::{Difference, answered, must, same_bits, same_count, same_
 use crate::ffi::*;
 use crate::meaning;
 use crate::rules;
-use crate::subjects::{GUARD, SENTINEL, bits};
+use crate::search::{self, Search};
+use crate::subjects::{GUARD, SENTINEL, bits, found};
 use crate::words::*;
 use oracle::{KeyframeTrack, Playable, Update};
 
@@ -67,6 +68,10 @@ impl TrackCall {
             IsComplete => {
                 let ours = answered(name, lax_track_is_complete(*t), self.completion(t))?;
                 Ok((ours.number, None))
+            }
+            ValueAt(_) | Value => {
+                let expected = found(self.read(t), || self.search(t));
+                answered(name, self.find(t), expected).map(|ours| (ours.number, None))
             }
             _ => answered(name, self.value(t), self.read(t)).map(|ours| (ours.number, None)),
         }
@@ -140,10 +145,22 @@ impl TrackCall {
         Ok((number, Some(Box::new(t))))
     }
 
-    fn value(&self, t: &LaxTrack) -> LaxValue {
+    fn find(&self, t: &LaxTrack) -> LaxFound {
         match self {
             ValueAt(secs) => lax_track_value_at(*t, *secs),
-            Value => lax_track_value(*t),
+            _ => lax_track_value(*t),
+        }
+    }
+
+    fn search(&self, t: &LaxTrack) -> Search {
+        match self {
+            ValueAt(secs) => search::of_track(t, *secs),
+            _ => search::of_track(t, meaning::track(t).time_in_pass()),
+        }
+    }
+
+    fn value(&self, t: &LaxTrack) -> LaxValue {
+        match self {
             ActiveTime => lax_track_active_time(*t),
             Duration => lax_track_duration(*t),
             PlaybackDuration => lax_track_playback_duration(*t),
@@ -174,10 +191,11 @@ impl TrackCall {
         let mut expected = ours.clone();
         let lent = times.to_vec();
         let answer = track_values_at(*t, &lent, &mut ours[..out]);
-        let LaxFilled { filled, number } = sampled(t, times, &mut expected[..out]);
+        let LaxFilled { filled, unsettled, number } = sampled(t, times, &mut expected[..out]);
         let name = self.name();
         same_count(format!("{name}: number"), answer.number as usize, number as usize)?;
         same_count(format!("{name}: filled"), answer.filled, filled)?;
+        same_count(format!("{name}: unsettled"), answer.unsettled, unsettled)?;
         same_list(&format!("{name}: out"), Float, &bits(&ours), &bits(&expected), filled)?;
         same_list(&format!("{name}: times"), Float, &bits(&lent), &bits(times), 0)?;
         Ok((number, None))
@@ -195,12 +213,14 @@ impl TrackCall {
 pub fn sampled(t: &LaxTrack, times: &[f32], out: &mut [f32]) -> LaxFilled {
     let number = rules::samples_refused(t, times.len(), out.len());
     let filled = if number == 0 { times.len() } else { 0 };
+    let mut unsettled = 0;
     if number == 0 {
         let track = meaning::track(t);
         let sampled = times.iter().map(|secs| track.value_at(*secs).expect("there are frames"));
         out.iter_mut().zip(sampled).for_each(|(place, value)| *place = value);
+        unsettled = times.iter().filter(|secs| !search::of_track(t, **secs).settled).count();
     }
-    LaxFilled { filled, number }
+    LaxFilled { filled, unsettled, number }
 }
 
 pub const NEW_TRACK: &str = "track new";

@@ -2,7 +2,8 @@ use crate::difference::{Difference, answered, must, same, same_bits, same_count,
 use crate::ffi::*;
 use crate::meaning;
 use crate::rules::{self, LIMIT, folds};
-use crate::subjects::{GUARD, SENTINEL, bits};
+use crate::search;
+use crate::subjects::{GUARD, SENTINEL, bits, found};
 use crate::words::*;
 use oracle::{Easing, Loop, Playable, Tween, Update};
 
@@ -51,7 +52,11 @@ impl TweenCall {
     pub fn check(&self, t: &LaxTween) -> Checked {
         let name = self.name();
         match self {
-            Value | Progress | EasedProgress | PlaybackDuration => {
+            Value | EasedProgress => {
+                let expected = found(self.read(t), || search::of_tween(t));
+                answered(name, self.find(t), expected).map(|answer| (answer.number, *t))
+            }
+            Progress | PlaybackDuration => {
                 answered(name, self.value(t), self.read(t)).map(|answer| (answer.number, *t))
             }
             Snapshot => answered(name, lax_tween_snapshot(*t), snapped(t)).map(|answer| (answer.number, *t)),
@@ -67,11 +72,16 @@ impl TweenCall {
         }
     }
 
-    fn value(&self, t: &LaxTween) -> LaxValue {
+    fn find(&self, t: &LaxTween) -> LaxFound {
         match self {
             Value => lax_tween_value(*t),
+            _ => lax_tween_eased_progress(*t),
+        }
+    }
+
+    fn value(&self, t: &LaxTween) -> LaxValue {
+        match self {
             Progress => lax_tween_progress(*t),
-            EasedProgress => lax_tween_eased_progress(*t),
             _ => lax_tween_playback_duration(*t),
         }
     }
@@ -140,6 +150,7 @@ impl TweenCall {
         let name = self.name();
         same_count(format!("{name}: number"), ours.number as usize, expected.number as usize)?;
         same_count(format!("{name}: done"), ours.done, expected.done)?;
+        same_count(format!("{name}: unsettled"), ours.unsettled, expected.unsettled)?;
         if expected.done == 0 {
             same_bits(name, &ours.tween, t)?;
         } else {
@@ -190,8 +201,8 @@ fn stepped(t: &LaxTween, step: f32) -> LaxUpdated {
 
 /// A run of steps by the rules, and by the Rust's update and value.
 pub fn ran(t: &LaxTween, steps: &[f32], values: &mut [f32], folds: &mut [u32]) -> LaxRun {
-    let mut run =
-        LaxRun { done: 0, number: rules::run_refused(t, steps.len(), values.len(), folds.len()), tween: *t };
+    let number = rules::run_refused(t, steps.len(), values.len(), folds.len());
+    let mut run = LaxRun { done: 0, unsettled: 0, number, tween: *t };
     if run.number != 0 {
         return run;
     }
@@ -207,6 +218,7 @@ pub fn ran(t: &LaxTween, steps: &[f32], values: &mut [f32], folds: &mut [u32]) -
         }
         values[place] = meaning::tween(&after.tween).value();
         folds[place] = after.folds;
+        run.unsettled += usize::from(!search::of_tween(&after.tween).settled);
         run.tween = after.tween;
         run.done += 1;
     }
