@@ -1,7 +1,7 @@
 // What the search for u finds, and what its steps hand on.
 ghost use mathlib.Core.Path.{_≡_};
-ghost use Rattle.bezier.specs.Search.{foundAt, withValue};
 ghost use mathlib.Core.Bool.{true};
+ghost use Rattle.bezier.specs.Search.{foundAt, withValue};
 
 // A value, and the search behind it: whether the last x evaluated met the tolerance, and how many x and how many derivatives were evaluated.
 pub struct Found {
