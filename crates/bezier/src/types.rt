@@ -3,11 +3,11 @@ ghost use mathlib.Core.Path.{_≡_};
 ghost use mathlib.Core.Bool.{true};
 ghost use Rattle.bezier.specs.Search.{foundAt, withValue};
 
-// A value, and the search behind it: whether the last x evaluated met the tolerance, and how many x and how many derivatives were evaluated.
+// A value, and the search behind it: whether the last x evaluated met the tolerance, and how many x and how many derivatives were evaluated. The mark stands between the counts: side by side they would be read as one wide word just after they were written as two, for which a processor waits.
 pub struct Found {
     pub value: f32,
-    pub settled: bool,
     pub xs: u32,
+    pub settled: bool,
     pub derivatives: u32,
 }
 
