@@ -10,7 +10,6 @@ pub mod Pushed
 pub mod Rising
 pub mod Samples
 pub mod Scans
-mod Searched
 mod Shifts
 mod Times
 pub mod Unchanged

@@ -26,9 +26,7 @@ fn times_of(frames: [Keyframe; 64], n: usize) -> [f32; 64]
 }
 
 // The sample of the first n frames at each time goes into the front of out; answered is how many of
-// them did not settle. The frames stay where they are: only the two beside a time are copied. The
-// test of xs changes no count: by it the mark is read as the byte that `apply` has just written, and
-// not as a word, for which the processor would wait.
+// them did not settle. The frames stay where they are: only the two beside a time are copied.
 pub fn fill(frames: [Keyframe; 64], n: usize, times: &[f32], out: &mut [f32]) -> usize
     requires { ⌜ (framesWithin (take n frames) ≡ true) × (0 < n) × (n ≤ 64) × (length (now times) ≤ length (now out)) ⌝ }
     ensures output { λ _. ⌜ now (out .exit) ≡ filledOf (take n frames) (now (times .entry)) (now (out .entry)) ⌝ }
@@ -47,7 +45,7 @@ pub fn fill(frames: [Keyframe; 64], n: usize, times: &[f32], out: &mut [f32]) ->
         let found = pick(first, last, k, l, t);
         out[i] = found.value;
         i += 1;
-        unsettled += (!found.settled & (0 < found.xs)) as usize;
+        unsettled += !found.settled as usize;
     }
     unsettled
 }

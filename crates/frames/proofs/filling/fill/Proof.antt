@@ -17,7 +17,6 @@ use Rattle.frames.specs.declared.frame.Keyframe.{Keyframe}
 use Rattle.frames.proofs.Picks.{picked-by}
 use Rattle.frames.proofs.Walks.{array-long}
 use Rattle.frames.proofs.Fills.{fillTo, fill-none, fill-more, fill-all}
-use Rattle.frames.proofs.Searched.{sample-searched}
 use Rattle.frames.proofs.Counts.{byte-below, byte-fits, count-next, count-past}
 use Rattle.frames.proofs.filling.fill.Statement.{statement}
 use Rattle.frames.proofs.filling.fill.Tie as tie
@@ -83,19 +82,15 @@ fill-spec =
     (λ c. search needs)
     (λ c. search needs)
     (λ c. search needs)
-    (λ c.
-    let s = c .before .before .before .before .before .before .before .before .before .before .before .loop in
-    let h : Fits w64 (s .i + 1) = omega arith in
-    search (byte-fits, s .inv .3))
+    (λ c. let h : Fits w64 (c .before .before .before .before .before .before .before .before .before .before .loop .i + 1) = omega arith in search (needs, byte-fits))
     (λ c. search needs)
     (λ c.
-    let d = c .before .before .before .before .before .before .before .before .before .before in
-    let s = d .before in
+    let s = c .before .before .before .before .before .before .before .before .before .before in
     let b = s .before .before .before .before .before .before in
-    let h : s .loop .i < length (now (b .args .times)) = d .loop-test .taken in
-    let e = sampled (c .before .before) in
+    let h : s .loop .i < length (now (b .args .times)) = omega arith in
+    let e = sampled (c .before) in
     let q = count-next (off (b .args .t1) (b .args .n)) (now (b .args .times)) (length (now (b .args .times))) (s .loop .i) h (λ k. absurd (omega (arith, k))) in
-    (omega arith, simp length-set (s .loop .inv .1), rw (e, s .loop .inv .2) (fill-more (at (b .args .t1) (b .args .n)) nan (now (b .args .times)) (now (b .args .out)) (b .pre .3) (s .loop .i) h), search (byte-below, s .loop .inv .3), rw (e, sample-searched) (omega (arith, q))))
+    (omega arith, simp length-set (s .loop .inv .1), rw (e, s .loop .inv .2) (fill-more (at (b .args .t1) (b .args .n)) nan (now (b .args .times)) (now (b .args .out)) (b .pre .3) (s .loop .i) h), search (needs, byte-below), rw e (omega (arith, q))))
     (λ c. c .before .loop .inv .1)
     (λ c.
     let s = c .before in
