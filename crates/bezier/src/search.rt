@@ -52,7 +52,7 @@ fn cut(s: Span, x: f32, t: f32) -> Span
 }
 
 // Up to 10 bisections, the first at `from`, behind so many Newton steps. The u of the last is taken unseen: its x is not worked out.
-fn bisect(x1: f32, x2: f32, t: f32, from: f32, steps: u32) -> Found
+fn bisect(x1: f32, x2: f32, t: f32, from: f32, steps: u8) -> Found
     requires { ⌜ steps ≤ 6 ⌝ }
     ensures { λ r. ⌜ r ≡ after steps steps (bisectFrom x1 x2 t from) ⌝ }
 {
@@ -68,7 +68,7 @@ fn bisect(x1: f32, x2: f32, t: f32, from: f32, steps: u32) -> Found
             return Found {
                 value: u,
                 settled: true,
-                xs: steps + k + 1,
+                xs: steps as u32 + k + 1,
                 derivatives: steps,
             };
         }
@@ -77,7 +77,7 @@ fn bisect(x1: f32, x2: f32, t: f32, from: f32, steps: u32) -> Found
     Found {
         value: s.u,
         settled: false,
-        xs: steps + 10,
+        xs: steps as u32 + 10,
         derivatives: steps,
     }
 }
@@ -87,14 +87,14 @@ pub fn solve(x1: f32, x2: f32, t: f32) -> Found
     ensures { λ r. ⌜ r ≡ solveOf x1 x2 t ⌝ }
 {
     let mut u = t;
-    let mut made: u32 = 0;
+    let mut made: u8 = 0;
     while made < 6 {
         match newton_turn(x1, x2, t, u) {
             Turn::Near => {
                 return Found {
                     value: u,
                     settled: true,
-                    xs: made + 1,
+                    xs: made as u32 + 1,
                     derivatives: made,
                 };
             }

@@ -7,8 +7,8 @@ ghost use Rattle.bezier.specs.Search.{foundAt, withValue};
 pub struct Found {
     pub value: f32,
     pub xs: u32,
+    pub derivatives: u8,
     pub settled: bool,
-    pub derivatives: u32,
 }
 
 impl Found {

@@ -121,7 +121,7 @@ pub fn found_words(a: Eased) -> LaxFound
             value: found.value,
             settled: flag_word(found.settled),
             xs: found.xs,
-            derivatives: found.derivatives,
+            derivatives: found.derivatives as u32,
         },
         Eased::Refused(refusal) => no_found(refusal.number()),
     }

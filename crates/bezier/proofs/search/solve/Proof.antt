@@ -54,6 +54,7 @@ solve-spec =
     (λ c κs. search needs)
     (λ c. search needs)
     (λ c. search needs)
+    (λ c. search needs)
     near
     (λ c. search needs)
     (λ c. search needs)
