@@ -3,7 +3,7 @@ ghost use mathlib.Core.Path.{_≡_};
 ghost use mathlib.Core.Bool.{true};
 ghost use Rattle.bezier.specs.Search.{foundAt, withValue};
 
-// A value, and the search behind it: whether the last x evaluated met the tolerance, and how many x and how many derivatives were evaluated. The mark stands between the counts: side by side they would be read as one wide word just after they were written as two, for which a processor waits.
+// A value, and the search behind it: how many x and how many derivatives were evaluated, and whether the last x met the tolerance. derivatives is a byte for the sake of the mark behind it: at a place that is a multiple of four the mark would be read as a word just after it was written as a byte, for which a processor waits.
 pub struct Found {
     pub value: f32,
     pub xs: u32,
