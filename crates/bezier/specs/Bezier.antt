@@ -10,7 +10,7 @@ use Rattle.bezier.specs.Search.{foundAt, withValue, solveOf}
 abbrev pub atEnd : Float → Bool
 atEnd t = eq t zeroF || eq t oneF
 
--- "x1, x2 clamped": what is found for t, at 0 and 1 without a search
+-- "x1, x2 clamped": what is found for t. Request 1: "t of 0 or 1 .. count as settled with no evaluations"
 unfoldable pub foundOf : Float → Float → Float → Found
 foundOf t x1 x2 = cond (atEnd t) (foundAt true t) (solveOf (clamp01Of x1) (clamp01Of x2) t)
 
