@@ -14,23 +14,15 @@ use mir.Val.{Fits, boolByte}
 use denote.Floats.{passes as holds}
 use Rattle.math.proofs.Choice.{by-test}
 use Rattle.math.proofs.Order.{lt-le, le-chain}
+use Rattle.math.proofs.Tallies.{byte-below, byte-more}
 use Rattle.frames.specs.declared.frame.Keyframe.{Keyframe}
 use Rattle.frames.specs.Limits.{framesAfter, noFrame}
 use Rattle.frames.specs.Counting.{countOf, counted}
 use Rattle.frames.specs.Sampling.{timesOf, leading, passedOf, firstOf, lastOf}
 use Rattle.frames.proofs.Rising.{rest-fine, head-above}
 
--- a test adds at most 1
-pub byte-below : (b : Bool) (c i : ℕ) → c < i → c + boolByte b < i + 1
-byte-below true c i h = omega arith
-byte-below false c i h = omega arith
-
 pub byte-fits : (w : Width) (b : Bool) (c i : ℕ) → c < i → Fits w i → Fits w (c + boolByte b)
 byte-fits w b c i h m = omega (arith, byte-below b c i h)
-
-one-more : (b : Bool) (c : ℕ) → cond b (suc c) c ≡ boolByte b + c
-one-more true c = omega arith
-one-more false c = omega arith
 
 module _ (q : Float → Bool) where
   next : (l : List Float) (m i : ℕ) → i < m → (length l ≤ i → q nan ≡ false) → countOf q (drop i (take m l)) ≡ boolByte (q (getD l i nan)) + countOf q (drop (suc i) (take m l))
@@ -38,7 +30,7 @@ module _ (q : Float → Bool) where
   next l zero i h e = absurd (omega (arith, h))
   next [] (suc m) zero h e = rw (e (omega arith))
   next [] (suc m) (suc i) h e = rw (e (omega arith))
-  next (x ∷ xs) (suc m) zero h e = one-more (q x) (countOf q (take m xs))
+  next (x ∷ xs) (suc m) zero h e = byte-more (q x) (countOf q (take m xs))
   next (x ∷ xs) (suc m) (suc i) h e = next xs m i (omega (arith, h)) (λ k. e (omega (arith, k)))
 
   -- of the places from i to m, the first and the rest; a place behind the list must count nothing

@@ -12,6 +12,7 @@ pub mod Numbers
 pub mod Order
 pub mod Ranges
 pub mod Sizes
+pub mod Tallies
 pub mod Upward
 mod WholePart
 pub mod Wholes

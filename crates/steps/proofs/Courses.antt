@@ -11,6 +11,7 @@ use lib.ListN.{length, drop, getD, set, length-append, length-set}
 use lib.Seq.{drop-cons, drop-length, set-at}
 use lib.Ieee.{Float, nan}
 use mir.Val.{boolByte}
+use Rattle.math.proofs.Tallies.{byte-below, byte-more}
 use Rattle.bezier.specs.declared.types.Found.{Found}
 use Rattle.refusal.specs.declared.Refusal.{Refusal}
 use Rattle.refusal.specs.declared.Refusal.the-variants.{RecordBreaksLimit, OutputTooShort}
@@ -25,15 +26,9 @@ use Rattle.steps.specs.Course.{stepOf, Course, ended, stopped, courseOf,
 abbrev behind : List Float → List ℕ → ℕ → Course → Course
 behind vs fs n c = record { tween = c .tween; values = vs ++ c .values; folds = fs ++ c .folds; unsettled = n + c .unsettled; outcome = c .outcome }
 
--- a value adds at most 1 to the count
-pub few-more : (settled : Bool) (n i : ℕ) → n ≤ i → n + boolByte (not settled) ≤ i + 1
-few-more true n i h = omega arith
-few-more false n i h = omega arith
-
 -- one value counted on the way, or with those behind it
-one-more : (settled : Bool) (n m : ℕ) → n + cond settled m (suc m) ≡ n + boolByte (not settled) + m
-one-more true n m = omega arith
-one-more false n m = omega arith
+one-more : (b : Bool) (n m : ℕ) → n + cond b (suc m) m ≡ n + boolByte b + m
+one-more b n m = omega (arith, byte-more b m)
 
 -- a front of i places is written, and behind it a list is as it was
 abbrev Written : {A : Type 0} → List A → ℕ → List A → List A → Type 0
@@ -56,7 +51,7 @@ pub record Reached (steps values₀ : List Float) (folds₀ : List ℕ) (t₀ : 
   pub folds-long : length folds ≡ length folds₀
   pub within : withinOf t ≡ true
   pub few : i ≤ length steps
-  pub few-unsettled : n ≤ i
+  pub few-unsettled : n < i + 1
 
 module _ (steps values₀ : List Float) (folds₀ : List ℕ) (t₀ : Tween) where
   pub begins : withinOf t₀ ≡ true → Reached steps values₀ folds₀ t₀ values₀ folds₀ t₀ 0 0
@@ -84,12 +79,12 @@ module _ (steps values₀ : List Float) (folds₀ : List ℕ) (t₀ : Tween) whe
           counts = s .counts ++ (k ∷ []);
           values-are = more nan (s .front) i values values₀ (f .value) (omega arith) (s .values-are);
           folds-are = more 0 (s .counts) i folds folds₀ k (omega arith) (s .folds-are);
-          course-is = s .course-is ∙ (rw (drop-cons steps i nan h, e, add-one, append-assoc, append-assoc, one-more (f .settled)));
+          course-is = s .course-is ∙ (rw (drop-cons steps i nan h, e, add-one, append-assoc, append-assoc, one-more (not (f .settled))));
           values-long = length-set values i (f .value) ∙ s .values-long;
           folds-long = length-set folds i k ∙ s .folds-long;
           within = w;
           few = omega arith;
-          few-unsettled = few-more (f .settled) n i (s .few-unsettled);
+          few-unsettled = byte-below (not (f .settled)) n (i + 1) (s .few-unsettled);
         }
 
     -- the run ends here

@@ -1,6 +1,6 @@
 -- A run of steps, by `update` and `value` and nothing else.
 use Prim.Native.Nat.{ℕ, suc}
-use mathlib.Core.Bool.{_&&_, cond}
+use mathlib.Core.Bool.{not, _&&_, cond}
 use mathlib.Core.List.{List, [], _∷_, _++_}
 use lib.Dec.{leb}
 use lib.ListN.{length, drop}
@@ -54,7 +54,7 @@ stopped t r = ended t (Refused r)
 
 -- Request 1, for a run as for a batch: "how many of its samples weren't" settled. n is how many behind this one are not
 abbrev pub counting : Found → ℕ → ℕ
-counting f n = cond (f .settled) n (suc n)
+counting f n = cond (not (f .settled)) (suc n) n
 
 -- a step that was taken, and the rest; or the first refusal, with the tween as it stood
 abbrev pub followed : Taken → Tween → (Tween → Course) → Course

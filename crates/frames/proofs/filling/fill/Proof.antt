@@ -11,13 +11,14 @@ use denote.Ref.{now}
 use lib.ListN.{length, take, drop, getD, length-set}
 use lib.Seq.{take-length}
 use lib.Ieee.{Float, nan}
+use Rattle.math.proofs.Tallies.{byte-below}
 use Rattle.frames.specs.Counting.{countOf}
 use Rattle.frames.specs.Sampling.{sampleOf, filledOf, unsettledOf}
 use Rattle.frames.specs.declared.frame.Keyframe.{Keyframe}
 use Rattle.frames.proofs.Picks.{picked-by}
 use Rattle.frames.proofs.Walks.{array-long}
 use Rattle.frames.proofs.Fills.{fillTo, fill-none, fill-more, fill-all}
-use Rattle.frames.proofs.Counts.{byte-below, byte-fits, count-next, count-past}
+use Rattle.frames.proofs.Counts.{byte-fits, count-next, count-past}
 use Rattle.frames.proofs.filling.fill.Statement.{statement}
 use Rattle.frames.proofs.filling.fill.Tie as tie
 

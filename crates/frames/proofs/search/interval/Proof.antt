@@ -8,8 +8,9 @@ use mir.Val.{Fits}
 use denote.Ref.{now}
 use lib.ListN.{take, drop}
 use lib.Ieee.{Float, le}
+use Rattle.math.proofs.Tallies.{byte-below}
 use Rattle.frames.specs.Counting.{countOf, counted}
-use Rattle.frames.proofs.Counts.{byte-below, byte-fits, count-next, count-past, not-nan}
+use Rattle.frames.proofs.Counts.{byte-fits, count-next, count-past, not-nan}
 use Rattle.frames.proofs.search.interval.Statement.{statement}
 use Rattle.frames.proofs.search.interval.Tie as tie
 

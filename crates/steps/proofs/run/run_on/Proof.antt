@@ -1,11 +1,13 @@
 -- `run_on` meets its contract. The invariant: the run has reached step i. The measure is the steps that are left. Assumes nothing.
 use Prim.Native.Nat.{_-_}
 use native.Mathlib.Omega.{arith}
+use mathlib.Core.Bool.{not}
 use mathlib.Core.Path.{sym, _∙_, subst}
 use borrow.Author.Needs.{needs}
 use lib.ListN.{length}
+use Rattle.math.proofs.Tallies.{byte-below}
 use Rattle.tween.specs.Inner.{Glides}
-use Rattle.steps.proofs.Courses.{Reached, few-more, begins, goes-on, stops, finishes}
+use Rattle.steps.proofs.Courses.{Reached, begins, goes-on, stops, finishes}
 use Rattle.steps.proofs.Taking.{took-within, glide-within, glide-took}
 use Rattle.steps.proofs.run.run_on.Statement.{statement}
 use Rattle.steps.proofs.run.run_on.Tie as tie
@@ -33,7 +35,7 @@ run-on-spec =
     (λ c. search needs)
     (λ c. omega (arith, c .before .before .before .before .before .before .before .loop .inv .folds-long, c .before .before .before .before .before .before .before .before .before .before .before .pre .2))
     (λ c. search needs)
-    (λ c. let s = c .before .before .before .before .before .before .before .before in omega (arith, few-more (c .before .sure-value .result .settled) _ _ (s .loop .inv .few-unsettled)))
+    (λ c. let s = c .before .before .before .before .before .before .before .before in omega (arith, byte-below (not (c .before .sure-value .result .settled)) _ _ (s .loop .inv .few-unsettled)))
     (λ c. search needs)
     (λ c. search needs)
     (λ c.
@@ -51,7 +53,7 @@ run-on-spec =
     (λ c. search needs)
     (λ c. omega (arith, c .before .before .before .before .before .before .before .before .before .before .loop .inv .folds-long, c .before .before .before .before .before .before .before .before .before .before .before .before .before .before .pre .2))
     (λ c. search needs)
-    (λ c. let s = c .before .before .before .before .before .before .before .before .before .before .before in omega (arith, few-more (c .before .before .tween .given .0 .1 .0 .settled) _ _ (s .loop .inv .few-unsettled), s .before .before .before .before .good .1 .0))
+    (λ c. let s = c .before .before .before .before .before .before .before .before .before .before .before in omega (arith, byte-below (not (c .before .before .tween .given .0 .1 .0 .settled)) _ _ (s .loop .inv .few-unsettled), s .before .before .before .before .good .1 .0))
     (λ c. omega (arith, c .before .before .before .before .before .before .before .before .before .before .before .before .before .before .before .good .1 .0))
     (λ c. search needs)
     (λ c.
