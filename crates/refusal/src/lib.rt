@@ -27,10 +27,20 @@ pub enum Refusal {
     TrackLimit,
     // The lent output is shorter than the list of times.
     OutputTooShort,
+    // The lent buffer has no room for a record of 8 bytes, or for a head of 5.
+    NoRoom,
+    // A step to be logged is NaN, or below 0.
+    StepBelowZero,
+    // The written log's mark is wrong, or cut short.
+    WrongMark,
+    // The written log's version is unknown, or cut short.
+    UnknownVersion,
+    // The written log is longer than the buffer, or its records are not whole.
+    WrongLength,
 }
 
 impl Refusal {
-    // The refusal's number in the table of refusals, from 1 to 12.
+    // The refusal's number in the table of refusals, from 1 to 17.
     pub fn number(self) -> u32
         ensures { λ r. ⌜ r ≡ numberOf self ⌝ }
     {
@@ -47,6 +57,11 @@ impl Refusal {
             Refusal::NoFrames => 10,
             Refusal::TrackLimit => 11,
             Refusal::OutputTooShort => 12,
+            Refusal::NoRoom => 13,
+            Refusal::StepBelowZero => 14,
+            Refusal::WrongMark => 15,
+            Refusal::UnknownVersion => 16,
+            Refusal::WrongLength => 17,
         }
     }
 }
