@@ -1,14 +1,15 @@
-/* laxombiit.h: the C interface of Laxombiit: proved easings, tweens and keyframe tracks.
+/* laxombiit.h: the C interface of Laxombiit: proved easings, tweens, keyframe tracks and event logs.
  *
  * Every record goes in and comes back by value; nothing is kept between calls, and no call
  * allocates. Each answer has a number: 0 where the call was accepted, the number of the refusal
  * where it was refused, LAX_UNKNOWN_WORD where a word is no kind, no mode or no state. Where the
- * number is not 0 the rest of the answer is 0, but for a record, which is then the one that came,
- * word for word, and lent lists are not written; lax_run says where a run of steps differs. A list
+ * number is not 0 the rest of the answer is 0, but for a record or a log's length, which is then the
+ * one that came, and lent lists are not written; lax_run says where a run of steps differs. A list
  * that is written overlaps no other.
  *
  * A call refuses by the first rule that applies, in this order:
- * 4, 1, 2, 3, 5, 11, 10, 12, 9, 6, 7, 8; LAX_UNKNOWN_WORD comes before them all.
+ * 4, 1, 2, 3, 5, 11, 10, 12, 9, 6, 7, 8; a record of a log has an order of its own. LAX_UNKNOWN_WORD
+ * comes before them all.
  *
  * Link with liblaxombiit.a and -lm: the time within a pass of a track takes C's fmodf.
  * The calls want the processor in its default mode: rounding to nearest, subnormals kept.
@@ -38,6 +39,11 @@ enum {
     LAX_NO_FRAMES = 10,          /* a track without frames is sampled */
     LAX_TRACK_LIMIT = 11,        /* a push or a change of mode breaks a limit */
     LAX_OUTPUT_TOO_SHORT = 12,   /* a lent output is shorter than the list that is read */
+    LAX_NO_ROOM = 13,            /* a buffer has no room for a log's head or for one more record */
+    LAX_STEP_BELOW_ZERO = 14,    /* a step to be logged is NaN or below 0 */
+    LAX_WRONG_MARK = 15,         /* a log's mark is wrong or cut short */
+    LAX_UNKNOWN_VERSION = 16,    /* a log's version is unknown or cut short */
+    LAX_WRONG_LENGTH = 17,       /* a log is longer than its buffer, or its records are not whole */
     LAX_UNKNOWN_WORD = 100       /* a word is no kind, no mode or no state */
 };
 
@@ -223,6 +229,21 @@ typedef struct lax_filled {
     uint32_t number;
 } lax_filled;
 
+/* What is done to a tween, as a record of an event log has it. */
+enum { LAX_LOG_STEP = 1, LAX_LOG_PAUSE = 2, LAX_LOG_RESUME = 3, LAX_LOG_RESET = 4 };
+
+/* step is in seconds, and is looked at in LAX_LOG_STEP. */
+typedef struct lax_event {
+    uint32_t kind;
+    float step;
+} lax_event;
+
+/* written is the length of the log after the call, in bytes: as it was where the number is not 0. */
+typedef struct lax_logged {
+    size_t written;
+    uint32_t number;
+} lax_logged;
+
 /* The layout that the archive was built for. */
 typedef char lax_size_of_easing[sizeof(lax_easing) == 24 ? 1 : -1];
 typedef char lax_size_of_loop[sizeof(lax_loop) == 8 ? 1 : -1];
@@ -240,6 +261,8 @@ typedef char lax_size_of_track[sizeof(lax_track) == 2072 ? 1 : -1];
 typedef char lax_size_of_track_changed[sizeof(lax_track_changed) == 2076 ? 1 : -1];
 typedef char lax_size_of_track_updated[sizeof(lax_track_updated) == 2080 ? 1 : -1];
 typedef char lax_size_of_filled[sizeof(lax_filled) == 24 ? 1 : -1];
+typedef char lax_size_of_event[sizeof(lax_event) == 8 ? 1 : -1];
+typedef char lax_size_of_logged[sizeof(lax_logged) == 16 ? 1 : -1];
 
 /* Easings. */
 
@@ -322,6 +345,18 @@ lax_track_changed lax_track_seek_to(lax_track t, float progress); /* measured as
 /* A step of so many seconds; NaN and what is below 0 count as 0. Changes nothing once complete or
  * with fewer than two frames. Refuses 5, 6, and 8 in the modes without an end. */
 lax_track_updated lax_track_update(lax_track t, float step);
+
+/* Event logs. A log is the bytes P, E, L, a 16-bit version, 1, and records of 8 bytes: a 16-bit number,
+ * the event's kind, a zero byte, and the step's bits in 4 bytes, 0 where the kind is no step. Numbers
+ * have their low byte first. Records count from 0, and 65,535 is followed by 0. */
+
+/* The head, 5 bytes at the buffer's start; other bytes stay. Refuses 13. */
+lax_logged lax_log_head(uint8_t *buffer, size_t buffer_len);
+
+/* One record, behind the first `written` bytes; other bytes stay. -0 is written as +0. Refuses 5 and 14
+ * for the step, 17 where `written` is beyond the buffer, 15, 16, 17 where it is not 5 plus a multiple
+ * of 8, and 13, in this order. */
+lax_logged lax_log_record(uint8_t *buffer, size_t buffer_len, size_t written, lax_event event);
 
 #ifdef __cplusplus
 }

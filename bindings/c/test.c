@@ -61,6 +61,7 @@ int main(void)
     test_easings();
     test_tweens();
     test_tracks();
+    test_logs();
     printf("C interface: %d hold, %d fail\n", held, failed);
     return failed != 0;
 }

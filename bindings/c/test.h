@@ -26,5 +26,6 @@ int not_found(lax_found f, uint32_t number);
 void test_easings(void);
 void test_tweens(void);
 void test_tracks(void);
+void test_logs(void);
 
 #endif

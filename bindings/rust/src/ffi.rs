@@ -155,6 +155,18 @@ const _: () = {
     assert!(size_of::<LaxFilled>() == 24);
 };
 
+#[repr(C)]
+pub struct LaxEvent {
+    pub kind: u32,
+    pub step: f32,
+}
+
+#[repr(C)]
+pub struct LaxLogged {
+    pub written: usize,
+    pub number: u32,
+}
+
 extern "C" {
     pub fn lax_easing_apply(e: LaxEasing, t: f32) -> LaxFound;
     pub fn lax_easing_eq(x: LaxEasing, y: LaxEasing) -> LaxFlag;
@@ -204,4 +216,7 @@ extern "C" {
     pub fn lax_track_reset(t: LaxTrack) -> LaxTrackChanged;
     pub fn lax_track_seek_to(t: LaxTrack, progress: f32) -> LaxTrackChanged;
     pub fn lax_track_update(t: LaxTrack, step: f32) -> LaxTrackUpdated;
+
+    pub fn lax_log_head(buffer: *mut u8, buffer_len: usize) -> LaxLogged;
+    pub fn lax_log_record(buffer: *mut u8, buffer_len: usize, written: usize, event: LaxEvent) -> LaxLogged;
 }

@@ -1,10 +1,11 @@
-//! Proved easings, tweens and keyframe tracks, with animato's names. Each call answers a `Result`:
+//! Proved easings, tweens, keyframe tracks and event logs, with animato's names. Each call answers a `Result`:
 //! what is refused is refused by number, exactly when the rules say, and a refused call changes
 //! nothing. What is promised, and where it is proved, stands in the repository's
 //! docs/CONTRACTS.md.
 #![warn(missing_docs)]
 
 mod easing;
+pub mod event_log;
 mod ffi;
 mod found;
 mod refusal;

@@ -35,9 +35,19 @@ pub enum Refusal {
     TrackLimit,
     /// 12
     OutputTooShort,
+    /// 13
+    NoRoom,
+    /// 14
+    StepBelowZero,
+    /// 15
+    WrongMark,
+    /// 16
+    UnknownVersion,
+    /// 17
+    WrongLength,
 }
 
-const ALL: [(Refusal, &str); 12] = [
+const ALL: [(Refusal, &str); 17] = [
     (Refusal::ProgressIsNan, "the progress is NaN"),
     (Refusal::EasingNotSupplied, "the easing is one of the twelve named kinds without a curve"),
     (Refusal::EasingParameter, "a parameter of the easing is not finite or beyond its limit"),
@@ -50,10 +60,15 @@ const ALL: [(Refusal, &str); 12] = [
     (Refusal::NoFrames, "the track has no frames"),
     (Refusal::TrackLimit, "the time, the value, the passes or the total breaks a limit"),
     (Refusal::OutputTooShort, "the output is shorter than the list"),
+    (Refusal::NoRoom, "the buffer has no room for a head or for one more record"),
+    (Refusal::StepBelowZero, "the step to be logged is NaN or below 0"),
+    (Refusal::WrongMark, "the log's mark is wrong or cut short"),
+    (Refusal::UnknownVersion, "the log's version is unknown or cut short"),
+    (Refusal::WrongLength, "the log is longer than its buffer, or its records are not whole"),
 ];
 
 impl Refusal {
-    /// The number, from 1 to 12.
+    /// The number, from 1 to 17.
     pub fn number(self) -> u32 {
         self as u32 + 1
     }

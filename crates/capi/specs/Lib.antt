@@ -1,5 +1,6 @@
 pub mod Answers
 pub mod Easings
+pub mod Logs
 pub mod TrackAnswers
 pub mod Tracks
 pub mod Tweens

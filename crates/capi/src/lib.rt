@@ -2,6 +2,7 @@
 // beside its answer: 0, the refusal's number, or 100 where a word is no kind, no mode or no state.
 mod answers;
 mod easings;
+mod logs;
 mod track_answers;
 mod tracks;
 mod tweens;
@@ -14,6 +15,8 @@ pub use answers::LaxRun;
 pub use answers::LaxSnapshot;
 pub use answers::LaxUpdated;
 pub use answers::LaxValue;
+pub use logs::LaxEvent;
+pub use logs::LaxLogged;
 pub use track_answers::LaxFilled;
 pub use track_answers::LaxTrackChanged;
 pub use track_answers::LaxTrackUpdated;

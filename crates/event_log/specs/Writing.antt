@@ -80,7 +80,7 @@ mayBeLogged e = not (isLong e) && isForward e
 -- a call behind another: it goes on where that one ended, and behind a refusal nothing is called
 abbrev pub goOn : Writing → (List ℕ → ℕ → Writing) → Writing
 goOn w call = answered (w .answer)
-    where
+  where
     answered : Logged → Writing
     answered (Written n) = call (w .buffer) n
     answered (Refused r) = w
