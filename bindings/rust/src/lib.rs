@@ -1,4 +1,4 @@
-//! Proved easings, tweens, keyframe tracks and event logs, with animato's names. Each call answers a `Result`:
+//! Proved easings, tweens and keyframe tracks, with animato's names, and the pump's event log. Each call answers a `Result`:
 //! what is refused is refused by number, exactly when the rules say, and a refused call changes
 //! nothing. What is promised, and where it is proved, stands in the repository's
 //! docs/CONTRACTS.md.

@@ -2,6 +2,7 @@
 mod common;
 
 use common::plain;
+use laxombiit::event_log::{write_head, write_record, Event};
 use laxombiit::{Easing, Keyframe, Loop, Refusal, Stopped, Track, Tween, TweenState};
 
 fn tween() -> Tween {
@@ -153,4 +154,15 @@ fn clocks_of_tracks() {
     let mut twice = ramp(Loop::Times(2), 0.0);
     twice.seek_to(0.5).unwrap();
     assert_eq!(twice.elapsed(), 2.0);
+}
+
+#[test]
+fn logs() {
+    let mut buffer = [7; 13];
+    assert_eq!((write_head(&mut buffer[..4]), buffer), (Err(Refusal::NoRoom), [7; 13]));
+    assert_eq!((write_head(&mut buffer), &buffer[..5]), (Ok(5), b"PEL\x01\0".as_slice()));
+    assert_eq!(write_record(&mut buffer, 0, Event::Pause), Err(Refusal::WrongMark));
+    let mut last = *b"PEL\x01\0\xff\xff\x02\0\0\0\0\0........";
+    assert_eq!(write_record(&mut last, 13, Event::Pause), Ok(21));
+    assert_eq!(last[13..], [0, 0, 2, 0, 0, 0, 0, 0]);
 }

@@ -30,12 +30,7 @@ fn written(events: &[Event]) -> Vec<u8> {
     let mut buffer = vec![FILL; 5 + 8 * events.len()];
     let mut length = write_head(&mut buffer).unwrap();
     for &event in events {
-        let before = buffer.clone();
-        let next = write_record(&mut buffer, length, event).unwrap();
-        assert_eq!(next, length + 8);
-        assert_eq!(buffer[..length], before[..length]);
-        assert_eq!(buffer[next..], before[next..]);
-        length = next;
+        length = write_record(&mut buffer, length, event).unwrap();
     }
     assert_eq!(length, buffer.len());
     buffer
@@ -66,6 +61,17 @@ fn a_small_log() {
 }
 
 #[test]
+fn other_bytes_stay() {
+    let log = written(&[Event::Pause; 5]);
+    for place in 0..5 {
+        let length = 5 + 8 * place;
+        let mut buffer = [&log[..length], &[FILL; 20]].concat();
+        assert_eq!(write_record(&mut buffer, length, Event::Pause), Ok(length + 8));
+        assert_eq!(buffer, [&log[..length + 8], &[FILL; 12]].concat());
+    }
+}
+
+#[test]
 fn numbers_wrap() {
     let kinds = [Event::Pause, Event::Resume, Event::Reset, Event::Step(1.5)];
     let events: Vec<Event> = (0..70_000).map(|k| kinds[k % 4]).collect();
@@ -79,6 +85,25 @@ fn numbers_go_on_from_the_last_record() {
     buffer[5..7].copy_from_slice(&700u16.to_le_bytes());
     write_record(&mut buffer, 13, Event::Reset).unwrap();
     assert_eq!(read(&buffer), Some(vec![(700, Event::Pause), (701, Event::Reset)]));
+}
+
+/// As the manual says: where the buffer is full, the log goes out, and the head and the last record stay.
+#[test]
+fn a_log_in_parts() {
+    let events: Vec<Event> = (0..1000).map(|k| Event::Step(k as f32)).collect();
+    let mut buffer = [FILL; 5 + 8 * 7];
+    let mut out = Vec::new();
+    let (mut from, mut length) = (0, write_head(&mut buffer).unwrap());
+    for &event in &events {
+        if length == buffer.len() {
+            out.extend_from_slice(&buffer[from..length]);
+            buffer.copy_within(length - 8..length, 5);
+            (from, length) = (13, 13);
+        }
+        length = write_record(&mut buffer, length, event).unwrap();
+    }
+    out.extend_from_slice(&buffer[from..length]);
+    assert_eq!(out, written(&events));
 }
 
 #[test]

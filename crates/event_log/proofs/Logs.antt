@@ -20,7 +20,7 @@ pub length-log : (es : List Event) → length (logOf es) ≡ 5 + 8 * length es
 length-log es = omega (arith, length-append head (recordsFrom 0 es), length-records 0 es)
 
 -- the number that a record holds, read back
-number-kept : (n : ℕ) → n < 65536 → n % 256 + n / 256 % 256 * 256 ≡ n
+pub number-kept : (n : ℕ) → n < 65536 → n % 256 + n / 256 % 256 * 256 ≡ n
 number-kept n h = omega (arith, mod-add-div n 256, mod-eq-of-lt {n = n / 256} {m = 256} (omega (arith, mod-add-div n 256)))
 
 wraps : (n i : ℕ) → (next n + i) % 65536 ≡ (n + suc i) % 65536
@@ -53,3 +53,7 @@ pub records-more : (n : ℕ) (es : List Event) (e : Event) → n < 65536 → rec
 unfolding recordsFrom
 records-more n [] e h = rw (add-zero n, mod-eq-of-lt h, append-nil) refl
 records-more n (x ∷ es) e h = rw (records-more (next n) es e (below (n + 1)), wraps n (length es), append-assoc) refl
+
+-- a log in parts: behind the head and one record of a log, with nothing between them, the number is the one that is due behind that record
+pub part-number : (n : ℕ) (e : Event) → n < 65536 → numberBehind (head ++ recordOf n e) ≡ next n
+part-number n e h = ap next (number-kept n h)
