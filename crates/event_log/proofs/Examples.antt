@@ -4,7 +4,6 @@ use mathlib.Core.Path.{_≡_, refl}
 use mathlib.Core.List.{List, [], _∷_}
 use lib.Ieee.{lt, ofBits, toBits}
 use Rattle.math.specs.Rounded.{f32}
-use Rattle.event_log.specs.declared.event.Event.{Event}
 use Rattle.event_log.specs.declared.event.Event.the-variants.{Step, Pause, Resume, Reset}
 use Rattle.event_log.specs.Format.{recordsFrom, logOf}
 

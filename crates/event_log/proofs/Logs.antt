@@ -1,10 +1,10 @@
 -- What a log is: its length, and the numbers of its records. Assumes nothing.
-use Prim.Native.Nat.{ℕ, zero, suc, _+_, _-_, _*_, _/_, _%_, _<_, _≤_}
+use Prim.Native.Nat.{ℕ, zero, suc, _+_, _*_, _/_, _%_, _<_}
 use mathlib.Core.Path.{_≡_, refl, sym, ap, _∙_}
 use mathlib.Core.List.{List, [], _∷_, _++_, append-assoc, append-nil}
 use native.Mathlib.Nat.{add-assoc, add-zero, zero-add, mod-add-mod, mod-add-div, mod-eq-of-lt, mod-lt}
 use native.Mathlib.Omega.{arith}
-use lib.ListN.{length, getD, length-append}
+use lib.ListN.{length, length-append}
 use lib.Seq.{getD-append-add}
 use Rattle.event_log.specs.declared.event.Event.{Event}
 use Rattle.event_log.specs.Format.{head, next, recordOf, recordsFrom, logOf}

@@ -1,6 +1,6 @@
 -- What a record's call comes to, refusal by refusal, in their order. Assumes nothing.
 use Prim.Native.Nat.{ℕ, _+_, _-_, _%_, _<_, _≤_}
-use mathlib.Core.Path.{_≡_, refl}
+use mathlib.Core.Path.{_≡_}
 use mathlib.Core.Bool.{true, false}
 use mathlib.Core.List.{List}
 use borrow.Author.Tests.{le-leb, lt-leb, eq-eqb, ne-eqb}
@@ -8,7 +8,7 @@ use lib.ListN.{length, take, drop}
 use Rattle.refusal.specs.declared.Refusal.the-variants.{StepTooLong, NoRoom, StepBelowZero, WrongMark, UnknownVersion, WrongLength}
 use Rattle.event_log.specs.declared.event.Event.{Event}
 use Rattle.event_log.specs.Format.{mark, version, head, recordOf, startsWith}
-use Rattle.event_log.specs.Writing.{refused, wrote, headIn, isLong, isForward, isWhole, numberBehind, recordIn}
+use Rattle.event_log.specs.Writing.{refused, wrote, headIn, isLong, isForward, numberBehind, recordIn}
 use Rattle.event_log.proofs.Heads.{head-whole}
 
 pub no-head : (buffer : List ℕ) → length buffer < 5 → headIn buffer ≡ refused buffer NoRoom

@@ -1,23 +1,22 @@
 -- What the calls write is a log, and they write nothing else. Assumes nothing.
-use Prim.Native.Nat.{ℕ, zero, suc, _+_, _-_, _*_, _%_, _<_, _≤_}
+use Prim.Native.Nat.{ℕ, _+_, _-_, _*_, _%_, _≤_}
 use mathlib.Core.Path.{_≡_, refl, sym, ap, _∙_}
-use mathlib.Core.Bool.{true, false, not}
+use mathlib.Core.Bool.{true, not}
 use mathlib.Core.List.{List, [], _∷_, _++_, append-assoc, append-nil}
 use native.Mathlib.Nat.{mod-add-mod, mul-mod-right, zero-add}
 use native.Mathlib.Omega.{arith}
-use borrow.Author.Tests.{le-leb, lt-leb, leb-true, leb-false, not-true, not-false}
+use borrow.Author.Tests.{le-leb, leb-true, not-true}
 use lib.Dec.{T, leb}
 use lib.Ieee.Fits.{and-l, and-r}
 use lib.Ieee.Bits.{is-true}
-use lib.ListN.{length, getD, take, drop, length-append, length-drop}
+use lib.ListN.{length, take, drop, length-append, length-drop}
 use lib.Seq.{take-append-seam, drop-drop, drop-append-add}
 use Rattle.math.proofs.Lists.{every}
 use Rattle.math.proofs.Choice.{by-test, and-both}
-use Rattle.refusal.specs.declared.Refusal.{Refusal}
-use Rattle.refusal.specs.declared.Refusal.the-variants.{StepTooLong, NoRoom, StepBelowZero, WrongMark, UnknownVersion, WrongLength}
+use Rattle.refusal.specs.declared.Refusal.the-variants.{NoRoom}
 use Rattle.event_log.specs.declared.event.Event.{Event}
-use Rattle.event_log.specs.Format.{mark, version, head, next, recordOf, recordsFrom, logOf, startsWith}
-use Rattle.event_log.specs.Writing.{Writing, refused, wrote, headIn, isLong, isForward, isWhole, numberAt, numberBehind, recordIn, mayBeLogged, goOn, recordsIn, Keeps}
+use Rattle.event_log.specs.Format.{mark, version, head, recordOf, recordsFrom, logOf, startsWith}
+use Rattle.event_log.specs.Writing.{Writing, refused, wrote, headIn, isLong, isForward, isWhole, numberBehind, recordIn, mayBeLogged, recordsIn, Keeps}
 use Rattle.event_log.proofs.Logs.{length-log, log-number, records-more}
 use Rattle.event_log.proofs.Refusals.{a-head, a-record}
 use Rattle.event_log.proofs.Places.{put-keeps, same-keeps}

@@ -56,7 +56,7 @@ isWhole written = leb 5 written && eqb ((written - 5) % 8) 0
 abbrev pub numberAt : List ℕ → ℕ → ℕ
 numberAt log place = getD log place 0 + getD log (place + 1) 0 * 256
 
--- "Records are numbered from 0, each by the one before plus one": the number of the record behind a log
+-- "Records are numbered from 0, each by the one before plus one": the number of the record behind a log, which has a record from 13 bytes on
 abbrev pub numberBehind : List ℕ → ℕ
 numberBehind log = cond (leb 13 (length log)) (next (numberAt log (length log - 8))) 0
 

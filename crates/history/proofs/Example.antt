@@ -20,7 +20,7 @@ use Rattle.tween.specs.declared.answers.Changed.the-variants.{Done}
 use Rattle.tween.specs.Parts.{put}
 use Rattle.tween.specs.Limits.{settingsWithin, clockWithin, withinOf}
 use Rattle.tween.specs.Calls.{atStart, resetOf}
-use Rattle.tween.specs.Folds.{foldOnce, due, foldsOf}
+use Rattle.folds.specs.Folds.{foldOnce, due, foldsOf}
 use Rattle.tween.specs.Update.{folded, advanced, waitOf, runOf, byState, updateOf}
 use Rattle.tween.specs.Promises.{isCompleted}
 use Rattle.history.specs.History.{Act, step, Past, afterAll, fresh, scaled, Settings, Holds}

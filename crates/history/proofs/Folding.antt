@@ -14,9 +14,9 @@ use Rattle.loop_mode.specs.declared.Loop.the-variants.{Once, Times, Forever, Pi
 use Rattle.loop_mode.specs.declared.PassLimit.{PassLimit}
 use Rattle.loop_mode.specs.declared.PassLimit.the-variants.{Passes, Endless}
 use Rattle.loop_mode.specs.Passes.{passesOf, limitOf}
-use Rattle.tween.specs.declared.fold.Folding.{Folding}
-use Rattle.tween.specs.Folds.{completes, goesOn, foldOnce, due, foldsOf}
-use Rattle.tween.proofs.Ways.{fold-counts, is-due, folds-keep}
+use Rattle.folds.specs.declared.Folding.{Folding}
+use Rattle.folds.specs.Folds.{completes, goesOn, foldOnce, due, foldsOf}
+use Rattle.folds.proofs.Ways.{fold-counts, is-due, folds-keep}
 
 -- F passes are fewer than the limit
 abbrev pub Below : PassLimit → ℕ → Type 0

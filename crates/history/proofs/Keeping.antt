@@ -17,14 +17,15 @@ use Rattle.loop_mode.specs.Passes.{limitOf}
 use Rattle.tween.specs.declared.record.Tween.{Tween}
 use Rattle.tween.specs.declared.record.TweenState.{TweenState}
 use Rattle.tween.specs.declared.record.TweenState.the-variants.{Idle, Running, Paused, Completed}
-use Rattle.tween.specs.declared.fold.Folding.{Folding}
+use Rattle.folds.specs.declared.Folding.{Folding}
 use Rattle.tween.specs.declared.answers.Updated.{Updated}
 use Rattle.tween.specs.declared.answers.Updated.the-variants.{Ran, Refused}
 use Rattle.tween.specs.Parts.{put}
 use Rattle.tween.specs.Limits.{withinOf}
-use Rattle.tween.specs.Folds.{due, foldsOf}
+use Rattle.folds.specs.Folds.{due, foldsOf}
 use Rattle.tween.specs.Update.{beginAt, afterFolds, advanced, waiting, lostOf, waitOf, runOf, byState, updateOf}
-use Rattle.tween.proofs.Ways.{not-due, foldedFrom, by-advanced}
+use Rattle.folds.proofs.Ways.{not-due}
+use Rattle.tween.proofs.Ways.{foldedFrom, by-advanced}
 use Rattle.history.specs.History.{counts}
 use Rattle.history.proofs.Folding.{Below, Counted, FoldedTo, all-keep}
 use Rattle.history.proofs.Standing.{Under, At, Standing, moves-to, duration-value, scale-value, delay-value, product-small}

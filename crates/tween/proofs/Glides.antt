@@ -10,9 +10,9 @@ use Rattle.tween.specs.declared.record.TweenState.the-variants.{Running}
 use Rattle.tween.specs.declared.answers.Updated.the-variants.{Ran}
 use Rattle.tween.specs.declared.update.Glided.{Glided}
 use Rattle.tween.specs.declared.update.Glided.the-variants.{To, Unsure}
-use Rattle.tween.specs.declared.fold.Folding.{Folding}
+use Rattle.folds.specs.declared.Folding.{Folding}
 use Rattle.tween.specs.Parts.{put}
-use Rattle.tween.specs.Folds.{foldOnce, due, foldsOf}
+use Rattle.folds.specs.Folds.{foldOnce, due, foldsOf}
 use Rattle.tween.specs.Update.{beginAt, ran, folded, advanced, updateOf}
 use Rattle.tween.specs.Inner.{Slides, Glides}
 

@@ -20,13 +20,14 @@ use Rattle.tween.specs.declared.record.TweenState.{TweenState}
 use Rattle.tween.specs.declared.record.TweenState.the-variants.{Idle, Running, Paused, Completed}
 use Rattle.tween.specs.declared.answers.Updated.{Updated}
 use Rattle.tween.specs.declared.answers.Updated.the-variants as updated
-use Rattle.tween.specs.declared.fold.Folding.{Folding}
+use Rattle.folds.specs.declared.Folding.{Folding}
 use Rattle.tween.specs.Parts.{put}
 use Rattle.tween.specs.Limits.{topWait, settingsWithin, idleBelow, clockWithin, countWithin, withinOf}
-use Rattle.tween.specs.Folds.{foldOnce, due, foldsOf}
+use Rattle.folds.specs.Folds.{foldOnce, due, foldsOf}
 use Rattle.tween.specs.Update.{beginAt, atOnce, afterFolds, ran, advanced, waiting, lostOf, waitOf, runOf, byState, updateOf}
 use Rattle.tween.specs.Promises.{keepsButCount}
-use Rattle.tween.proofs.Ways.{by-fold, is-due, not-due, folds-keep, foldedFrom, by-advanced}
+use Rattle.folds.proofs.Ways.{by-fold, is-due, not-due, folds-keep}
+use Rattle.tween.proofs.Ways.{foldedFrom, by-advanced}
 use Rattle.tween.proofs.Bounds.{top-wait-is, Limits, limits, settings-stay, between, clock, within, waited, elapsed}
 
 -- folding: from 0 up, and at most the duration on completion

@@ -1,6 +1,5 @@
 pub mod Bounds
 pub mod Examples
-mod Folds
 pub mod Glides
 pub mod Handed
 pub mod Kept

@@ -21,12 +21,13 @@ use Rattle.tween.specs.declared.record.TweenState.{TweenState}
 use Rattle.tween.specs.declared.record.TweenState.the-variants.{Idle, Running, Paused, Completed}
 use Rattle.tween.specs.declared.answers.Updated.{Updated}
 use Rattle.tween.specs.declared.answers.Updated.the-variants.{Ran, Refused}
-use Rattle.tween.specs.declared.fold.Folding.{Folding}
-use Rattle.tween.specs.Folds.{foldOnce, due, foldsOf}
+use Rattle.folds.specs.declared.Folding.{Folding}
+use Rattle.folds.specs.Folds.{foldOnce, due, foldsOf}
 use Rattle.tween.specs.Update.{beginAt, advanced, lostOf, waitOf, runOf, byState, updateOf}
 use Rattle.tween.specs.Limits.{withinOf}
 use Rattle.tween.specs.Promises.{isCompleted, sumBy, runsOn, comesToFold, foldTimes, TooFew}
-use Rattle.tween.proofs.Ways.{fold-counts, foldedFrom, by-advanced, by-update}
+use Rattle.folds.proofs.Ways.{fold-counts}
+use Rattle.tween.proofs.Ways.{foldedFrom, by-advanced, by-update}
 
 -- n folds at most add n at most
 folds-few : (n : ℕ) (b : Bool) (l : Loop) (d : Float) (p : Folding) → foldsOf n b l d p .folds ≤ p .folds + n

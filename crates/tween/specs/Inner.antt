@@ -8,7 +8,7 @@ use Rattle.tween.specs.declared.record.Tween.{Tween}
 use Rattle.tween.specs.declared.record.TweenState.the-variants.{Running}
 use Rattle.tween.specs.declared.answers.Updated.{Updated}
 use Rattle.tween.specs.declared.answers.Updated.the-variants.{Ran, Refused}
-use Rattle.tween.specs.declared.fold.Folding.{Folding}
+use Rattle.folds.specs.declared.Folding.{Folding}
 use Rattle.tween.specs.declared.step.Begun.{Begun}
 use Rattle.tween.specs.declared.step.Begun.the-variants.{Still, Lost, Waits, Runs}
 use Rattle.tween.specs.declared.update.Glided.{Glided}

@@ -1,7 +1,6 @@
 pub mod Parts
 pub mod Limits
 pub mod Calls
-pub mod Folds
 pub mod Update
 pub mod Inner
 pub mod Promises

@@ -13,9 +13,9 @@ use Rattle.tween.specs.declared.answers.Changed.{Changed}
 use Rattle.tween.specs.declared.answers.Changed.the-variants as changed
 use Rattle.tween.specs.declared.answers.Updated.{Updated}
 use Rattle.tween.specs.declared.answers.Updated.the-variants as updated
-use Rattle.tween.specs.declared.fold.Folding.{Folding}
+use Rattle.folds.specs.declared.Folding.{Folding}
 use Rattle.tween.specs.Limits.{settingsWithin, clockWithin, withinOf}
-use Rattle.tween.specs.Folds.{foldOnce, due}
+use Rattle.folds.specs.Folds.{foldOnce, due}
 use Rattle.tween.specs.Update.{beginAt, lostOf}
 
 -- an accepted call hands back a tween within its limits

@@ -11,10 +11,10 @@ use Rattle.tween.specs.declared.record.TweenState.{TweenState}
 use Rattle.tween.specs.declared.record.TweenState.the-variants.{Idle, Running, Paused, Completed}
 use Rattle.tween.specs.declared.answers.Updated.{Updated}
 use Rattle.tween.specs.declared.answers.Updated.the-variants.{Ran, Refused}
-use Rattle.tween.specs.declared.fold.Folding.{Folding}
+use Rattle.folds.specs.declared.Folding.{Folding}
 use Rattle.tween.specs.Parts.{put}
 use Rattle.tween.specs.Limits.{withinOf}
-use Rattle.tween.specs.Folds.{due, foldsOf}
+use Rattle.folds.specs.Folds.{due, foldsOf}
 
 -- the folding begins at an elapsed e
 abbrev pub beginAt : Tween → Float → Folding

@@ -1,7 +1,6 @@
 // A ramp from one value to another, and its clock.
 mod answers;
 mod change;
-mod fold;
 mod limits;
 mod read;
 mod record;
@@ -11,7 +10,6 @@ mod update;
 pub use answers::Changed;
 pub use answers::Snapped;
 pub use answers::Updated;
-pub use fold::Folding;
 pub use limits::within;
 pub use read::value_in;
 pub use record::Tween;

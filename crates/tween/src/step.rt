@@ -7,13 +7,13 @@ ghost use Rattle.tween.specs.Limits.{withinOf};
 ghost use Rattle.tween.specs.Update.{afterFolds, ran, advanced, waitOf, runOf, byState, updateOf};
 ghost use Rattle.tween.specs.Inner.{finishOf};
 use crate::answers::Updated;
-use crate::fold::Folding;
-use crate::fold::fold_all;
-use crate::fold::is_due;
 use crate::record::Tween;
 use crate::record::TweenSnapshot;
 use crate::record::TweenState;
 use crate::record::with_ends;
+use folds::Folding;
+use folds::fold_all;
+use folds::is_due;
 use refusal::Refusal;
 
 fn after_folds(waited: f32, p: Folding) -> TweenSnapshot

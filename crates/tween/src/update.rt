@@ -7,15 +7,15 @@ ghost use Rattle.tween.specs.Limits.{withinOf};
 ghost use Rattle.tween.specs.Update.{updateOf};
 ghost use Rattle.tween.specs.Inner.{Slides, Glides};
 use crate::answers::Updated;
-use crate::fold::Folding;
-use crate::fold::fold_once;
-use crate::fold::is_due;
 use crate::limits::within;
 use crate::record::Tween;
 use crate::record::TweenState;
 use crate::step::Begun;
 use crate::step::run;
 use crate::step::step_on;
+use folds::Folding;
+use folds::fold_once;
+use folds::is_due;
 use refusal::Refusal;
 
 // What the step changes, so that a caller can set it in place: delay_elapsed, and what folding

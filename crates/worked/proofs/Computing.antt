@@ -9,7 +9,7 @@ use Rattle.easing.specs.Apply.{searchOf, applyOf, fitsRecordOf}
 use Rattle.loop_mode.specs.Passes.{withinOf as modeWithin}
 use Rattle.tween.specs.Limits.{settingsWithin, clockWithin, withinOf as tweenWithin}
 use Rattle.tween.specs.Calls.{valueOf, resetOf}
-use Rattle.tween.specs.Folds.{foldOnce, due, foldsOf}
+use Rattle.folds.specs.Folds.{foldOnce, due, foldsOf}
 use Rattle.tween.specs.Update.{folded, advanced, waitOf, runOf, byState, updateOf as tweenUpdate}
 use Rattle.frames.specs.Limits.{isTime, frameWithin, framesAfter}
 use Rattle.frames.specs.Sampling.{durationOf, betweenOf, leading, sampleOf}

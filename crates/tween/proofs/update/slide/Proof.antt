@@ -3,7 +3,7 @@ use mathlib.Core.Path.{refl, sym, _∙_}
 use borrow.Author.Needs.{needs}
 use lib.Ieee.{ofBits}
 use Rattle.math.proofs.Choice.{fails, passes}
-use Rattle.tween.specs.Folds.{foldsOf}
+use Rattle.folds.specs.Folds.{foldsOf}
 use Rattle.tween.specs.Update.{folded, advanced}
 use Rattle.tween.proofs.Glides.{one-fold}
 use Rattle.tween.proofs.update.slide.Statement.{statement}

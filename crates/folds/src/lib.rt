@@ -1,7 +1,7 @@
 // The folds of an update: what happens each time that elapsed comes to the duration.
 ghost use mathlib.Core.Path.{_≡_};
 ghost use Prim.Native.Nat.{_≤_, _<_};
-ghost use Rattle.tween.specs.Folds.{completes, goesOn, foldOnce, due, foldsOf};
+ghost use Rattle.folds.specs.Folds.{completes, goesOn, foldOnce, due, foldsOf};
 use loop_mode::Loop;
 use loop_mode::passes;
 

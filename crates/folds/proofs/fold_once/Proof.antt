@@ -1,9 +1,9 @@
 -- `fold_once` meets its contract: each arm is told its mode. Assumes nothing.
 use borrow.Author.Needs.{needs}
 use borrow.Author.Tests.{le-leb, lt-leb}
-use Rattle.tween.specs.Folds.{foldOnce}
-use Rattle.tween.proofs.fold.fold_once.Statement.{statement}
-use Rattle.tween.proofs.fold.fold_once.Tie as tie
+use Rattle.folds.specs.Folds.{foldOnce}
+use Rattle.folds.proofs.fold_once.Statement.{statement}
+use Rattle.folds.proofs.fold_once.Tie as tie
 
 pub fold-once-spec : {M : Type 1} → statement M
 unfolding foldOnce

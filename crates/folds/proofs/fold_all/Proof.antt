@@ -3,12 +3,12 @@ use Prim.Native.Nat.{_+_, _≤_}
 use native.Mathlib.Omega.{arith}
 use mathlib.Core.Path.{_≡_, refl, ap, _∙_}
 use borrow.Author.Needs.{needs}
-use Rattle.tween.specs.declared.fold.Folding.{Folding}
-use Rattle.tween.specs.Folds.{due, foldsOf}
-use Rattle.tween.proofs.Folds.{folds-none, folds-done, folds-next, count-grows}
-use Rattle.tween.proofs.Ways.{fold-counts}
-use Rattle.tween.proofs.fold.fold_all.Statement.{statement}
-use Rattle.tween.proofs.fold.fold_all.Tie as tie
+use Rattle.folds.specs.declared.Folding.{Folding}
+use Rattle.folds.specs.Folds.{due, foldsOf}
+use Rattle.folds.proofs.Folds.{folds-none, folds-done, folds-next, count-grows}
+use Rattle.folds.proofs.Ways.{fold-counts}
+use Rattle.folds.proofs.fold_all.Statement.{statement}
+use Rattle.folds.proofs.fold_all.Tie as tie
 
 abbrev Inv-loop : tie.InvT-loop
 Inv-loop looping duration p₀ left₀ p left =

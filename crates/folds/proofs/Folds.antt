@@ -12,8 +12,8 @@ use Rattle.math.proofs.Choice.{by-test, fails, passes}
 use Rattle.loop_mode.specs.declared.Loop.{Loop}
 use Rattle.loop_mode.specs.declared.Loop.the-variants.{Once, Times, Forever, PingPong, PingPongTimes}
 use Rattle.loop_mode.specs.Passes.{passesOf}
-use Rattle.tween.specs.declared.fold.Folding.{Folding}
-use Rattle.tween.specs.Folds.{foldOnce, due, foldsOf}
+use Rattle.folds.specs.declared.Folding.{Folding}
+use Rattle.folds.specs.Folds.{foldOnce, due, foldsOf}
 
 pub folds-none : (b : Bool) (l : Loop) (d : Float) (p : Folding) → foldsOf 0 b l d p ≡ p
 unfolding foldsOf

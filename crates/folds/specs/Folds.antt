@@ -7,7 +7,7 @@ use Rattle.math.specs.Rounded.{_⊖_}
 use Rattle.loop_mode.specs.declared.Loop.{Loop}
 use Rattle.loop_mode.specs.declared.Loop.the-variants.{Once, Times, Forever, PingPong, PingPongTimes}
 use Rattle.loop_mode.specs.Passes.{passesOf}
-use Rattle.tween.specs.declared.fold.Folding.{Folding}
+use Rattle.folds.specs.declared.Folding.{Folding}
 
 -- "elapsed = duration, Completed", with loop_count n and reversed or not
 abbrev pub completes : Float → ℕ → Bool → Folding → Folding
