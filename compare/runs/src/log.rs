@@ -20,7 +20,7 @@ unsafe impl Words for Entry {
     }
 }
 
-/// The records of a log, or nothing where the bytes are none.
+/// The records of a log, or nothing where the bytes are no log.
 pub fn read(bytes: &[u8]) -> Option<Vec<Entry>> {
     let ([b'P', b'E', b'L', low, high], records) = bytes.split_first_chunk::<HEAD>()? else { return None };
     if whole(&[*low, *high]) != 1 || records.len() % RECORD != 0 {

@@ -38,7 +38,7 @@ impl Maker {
         LaxEvent { kind, step: self.log_step() }
     }
 
-    /// One that is written as a rule.
+    /// One that is not refused for its step or its kind.
     fn good_event(&mut self) -> LaxEvent {
         let kind = self.pick(&[STEP, STEP, PAUSE, RESUME, RESET]);
         LaxEvent { kind, step: self.up_to(LIMIT) }
@@ -77,7 +77,7 @@ impl Maker {
         if self.once_in(2) { self.pick(&LAST_NUMBERS) } else { self.below(65_536) }
     }
 
-    /// A record before the new one is none.
+    /// Its records have any bytes here and there.
     pub fn log_of_odd_records(&mut self) -> Log {
         let mut log = self.log();
         for place in HEAD..log.written {

@@ -80,7 +80,7 @@ impl LogCall {
         let mut expected = before.to_vec();
         expected[written..end].copy_from_slice(&record_bytes(&record));
         lent.same(self.name(), &expected)?;
-        // records before it may be none, and are not looked at
+        // of the records before it only the last one's number counts, so they may be wrong
         match log::read(&before[..written]) {
             Some(records) => self.read_back(&lent.buffer()[..end], &[records, vec![record]].concat())?,
             None => self.same_record(log::read_record(&lent.buffer()[written..end]), &record)?,
