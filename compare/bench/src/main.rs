@@ -12,7 +12,7 @@ mod ffi;
 #[allow(dead_code)]
 #[path = "../../runs/src/meaning.rs"]
 mod meaning;
-#[allow(dead_code)]
+#[allow(dead_code, unused_imports)]
 #[path = "../../runs/src/rules/mod.rs"]
 mod rules;
 #[allow(dead_code)]

@@ -75,6 +75,16 @@ pub fn same_list(
     Ok(())
 }
 
+/// Bytes of a lent buffer, to the bit.
+pub fn same_bytes(what: &str, ours: &[u8], expected: &[u8]) -> Result<(), Difference> {
+    if ours == expected {
+        return Ok(());
+    }
+    let words = |bytes: &[u8]| bytes.iter().map(|byte| u32::from(*byte)).collect::<Vec<u32>>();
+    same_count(format!("{what}: length"), ours.len(), expected.len())?;
+    same_list(what, Whole, &words(ours), &words(expected), 0)
+}
+
 pub fn must(what: &str, holds: bool) -> Result<(), Difference> {
     if holds { Ok(()) } else { differ(what.into(), "no".into(), "yes".into()) }
 }

@@ -1,5 +1,7 @@
 //! The edges, one by one: each word of some plain records at each edge, in every call; each argument at
 //! each edge. The same in every run.
+mod log;
+
 use crate::input::Input;
 use crate::make::{EDGES, FRAME_COUNTS};
 use crate::meaning;
@@ -17,12 +19,14 @@ const COUNTS: [u32; 24] = [
 
 const TWEENS: u64 = 5 * 4;
 const TRACKS: u64 = 5 * FRAME_COUNTS.len() as u64;
-pub const PARTS: u64 = 1 + TWEENS + TRACKS;
+const RECORDS: u64 = 1 + TWEENS + TRACKS;
+pub const PARTS: u64 = RECORDS + log::PARTS;
 
 pub fn part(part: u64, runner: &mut Runner) -> Tried<()> {
     match part {
         0 => easings(runner),
         1..=TWEENS => tweens(&plain_tween((part as u32 - 1) / 4, (part as u32 - 1) % 4), runner),
+        RECORDS.. => log::part(part - RECORDS, runner),
         _ => {
             let place = (part - 1 - TWEENS) as u32;
             tracks(&plain_track(place / 5, FRAME_COUNTS[place as usize % 5]), runner)

@@ -51,6 +51,9 @@ unsafe extern "C" {
     pub safe fn lax_track_is_complete(t: LaxTrack) -> LaxFlag;
     pub safe fn lax_track_reset(t: LaxTrack) -> LaxTrackChanged;
     pub safe fn lax_track_seek_to(t: LaxTrack, progress: f32) -> LaxTrackChanged;
+
+    fn lax_log_head(buffer: *mut u8, buffer_len: usize) -> LaxLogged;
+    fn lax_log_record(buffer: *mut u8, buffer_len: usize, written: usize, event: LaxEvent) -> LaxLogged;
 }
 
 pub fn tween_run(t: LaxTween, steps: &[f32], values: &mut [f32], folds: &mut [u32]) -> LaxRun {
@@ -69,4 +72,12 @@ pub fn tween_run(t: LaxTween, steps: &[f32], values: &mut [f32], folds: &mut [u3
 
 pub fn track_values_at(t: LaxTrack, times: &[f32], out: &mut [f32]) -> LaxFilled {
     unsafe { lax_track_values_at(t, times.as_ptr(), times.len(), out.as_mut_ptr(), out.len()) }
+}
+
+pub fn log_head(buffer: &mut [u8]) -> LaxLogged {
+    unsafe { lax_log_head(buffer.as_mut_ptr(), buffer.len()) }
+}
+
+pub fn log_record(buffer: &mut [u8], written: usize, event: LaxEvent) -> LaxLogged {
+    unsafe { lax_log_record(buffer.as_mut_ptr(), buffer.len(), written, event) }
 }

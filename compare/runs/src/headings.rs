@@ -1,6 +1,7 @@
 //! Under which headings of the tally an input is counted.
 use crate::input::Input;
-use crate::subjects::{EasingCall, TrackCall, TweenCall};
+use crate::rules::STEP;
+use crate::subjects::{EasingCall, LogCall, TrackCall, TweenCall};
 use crate::tally::{Heading, Section};
 
 pub fn headings(made: &'static str, input: &Input) -> Vec<Heading> {
@@ -9,10 +10,16 @@ pub fn headings(made: &'static str, input: &Input) -> Vec<Heading> {
         all.push((Section::Frames, frame_count(t.count)));
     }
     all.extend(argument(input).map(|x| (Section::Argument, class(x))));
-    if let [(_, given), rest @ ..] = &input.lengths()[..] {
-        let least = rest.iter().map(|(_, length)| *length).min().unwrap_or(0);
-        let most = rest.iter().map(|(_, length)| *length).max().unwrap_or(0);
-        all.push((Section::List, output(*given, least, most)));
+    match (input, &input.lengths()[..]) {
+        (Input::Log(LogCall::Record { buffer, written, .. }), _) => {
+            all.push((Section::Written, written_length(*written, buffer.len())));
+        }
+        (Input::Tween(..) | Input::Track(..), [(_, given), rest @ ..]) => {
+            let least = rest.iter().map(|(_, length)| *length).min().unwrap_or(0);
+            let most = rest.iter().map(|(_, length)| *length).max().unwrap_or(0);
+            all.push((Section::List, output(*given, least, most)));
+        }
+        _ => {}
     }
     all
 }
@@ -35,6 +42,7 @@ fn argument(input: &Input) -> Option<f32> {
         | Input::Tween(_, TweenCall::Seek(x) | TweenCall::Update(x))
         | Input::Track(_, TrackCall::Push(x, _) | TrackCall::PushEased(x, _, _))
         | Input::Track(_, TrackCall::ValueAt(x) | TrackCall::Update(x) | TrackCall::SeekTo(x)) => Some(*x),
+        Input::Log(LogCall::Record { event, .. }) if event.kind == STEP => Some(event.step),
         _ => None,
     }
 }
@@ -59,5 +67,17 @@ fn output(given: usize, least: usize, most: usize) -> &'static str {
         _ if least < given => "output too short",
         _ if most > given => "output longer than the list",
         _ => "output as long as the list",
+    }
+}
+
+fn written_length(written: usize, buffer: usize) -> &'static str {
+    match written {
+        _ if written > buffer => "beyond the buffer",
+        0..3 => "0 to 2",
+        3..5 => "3 or 4",
+        5 => "5",
+        _ if written % 8 != 5 => "records not whole",
+        _ if written == buffer => "records to the buffer's end",
+        _ => "records, and bytes behind them",
     }
 }

@@ -1,4 +1,6 @@
 //! One call with all that it is given: what a run tries, shows and makes smaller.
+mod log;
+
 use crate::difference::{Difference, shown};
 use crate::rules::frames;
 use crate::subjects::*;
@@ -11,6 +13,7 @@ pub enum Input {
     Tween(LaxTween, TweenCall),
     NewTrack,
     Track(Box<LaxTrack>, TrackCall),
+    Log(LogCall),
 }
 
 /// The record after a call.
@@ -28,6 +31,7 @@ impl Input {
             Input::Tween(_, call) => call.name(),
             Input::NewTrack => NEW_TRACK,
             Input::Track(_, call) => call.name(),
+            Input::Log(call) => call.name(),
         }
     }
 
@@ -41,6 +45,7 @@ impl Input {
                 let (number, after) = call.check(t)?;
                 Ok((number, after.map_or(After::None, After::Track)))
             }
+            Input::Log(call) => call.check().map(|number| (number, After::None)),
         }
     }
 
@@ -54,6 +59,7 @@ impl Input {
             Input::Track(t, call) => {
                 [record("track", t.as_mut()), track_words(call)].into_iter().flatten().collect()
             }
+            Input::Log(call) => log::words(call),
         }
     }
 
@@ -66,11 +72,12 @@ impl Input {
             Input::Track(_, TrackCall::ValuesAt { times, out }) => {
                 vec![("times", times.len()), ("out", *out)]
             }
+            Input::Log(call) => log::lengths(call),
             _ => vec![],
         }
     }
 
-    /// The same with one frame or one element of a list less.
+    /// The same with one frame, one element of a list or one record of a log less.
     pub fn shorter(&self) -> Vec<Input> {
         let mut all = Vec::new();
         if let Input::Track(t, call) = self {
@@ -97,6 +104,7 @@ impl Input {
                     ));
                 }
             }
+            Input::Log(call) => all.extend(log::shorter(call).into_iter().map(Input::Log)),
             _ => {}
         }
         all
@@ -117,7 +125,7 @@ impl Input {
     }
 }
 
-fn without(list: &[f32], place: usize) -> Vec<f32> {
+fn without<T: Clone>(list: &[T], place: usize) -> Vec<T> {
     let mut list = list.to_vec();
     list.remove(place);
     list

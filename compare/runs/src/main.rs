@@ -7,6 +7,7 @@ mod ffi;
 mod headings;
 mod input;
 mod list;
+mod log;
 mod make;
 mod meaning;
 mod power;

@@ -1,4 +1,4 @@
-//! Random cases: a call of an easing, or a history of calls on one record.
+//! Random cases: a call of an easing, or a history of calls on one record; behind every fourth, calls of a log.
 use crate::input::{After, Input};
 use crate::make::Maker;
 use crate::runner::{Runner, Tried};
@@ -15,6 +15,9 @@ pub fn part(seed: u64, part: u64, runner: &mut Runner) -> Tried<()> {
             0..3 => easings(&mut maker, runner)?,
             3..7 => tweens(&mut maker, runner)?,
             _ => tracks(&mut maker, runner)?,
+        }
+        if maker.once_in(4) {
+            logs(&mut maker, runner)?;
         }
     }
     Ok(())
@@ -105,4 +108,21 @@ fn pushed_track(maker: &mut Maker, runner: &mut Runner) -> Tried<Box<LaxTrack>> 
         }
     }
     Ok(track)
+}
+
+fn logs(maker: &mut Maker, runner: &mut Runner) -> Tried<()> {
+    runner.check("log, any bytes", Input::Log(LogCall::Head { buffer: maker.some_bytes(12) }))?;
+    runner.check("log, from its head", Input::Log(maker.log_history()))?;
+    let (made, log) = match maker.below(8) {
+        0 => ("log, records of any bytes", maker.log_of_odd_records()),
+        1 => ("log, head wrong", maker.log_of_odd_head()),
+        2 | 3 => ("log, length wrong", maker.log_of_odd_length()),
+        4 => ("log, cut short", maker.log_cut_short()),
+        _ => ("log, good", maker.log()),
+    };
+    for _ in 0..4 {
+        let (buffer, written, event) = (log.buffer.clone(), log.written, maker.event());
+        runner.check(made, Input::Log(LogCall::Record { buffer, written, event }))?;
+    }
+    Ok(())
 }

@@ -9,11 +9,12 @@ pub enum Section {
     Frames,
     Argument,
     List,
+    Written,
 }
 
 pub type Heading = (Section, &'static str);
 
-const NUMBERS: [u32; 14] = [0, 1, 2, 3, 4, 5, 6, 7, 8, 9, 10, 11, 12, 100];
+const NUMBERS: [u32; 19] = [0, 1, 2, 3, 4, 5, 6, 7, 8, 9, 10, 11, 12, 13, 14, 15, 16, 17, 100];
 
 fn column(number: u32) -> usize {
     NUMBERS.iter().position(|own| *own == number).expect("a number of the rules")
@@ -73,6 +74,7 @@ fn head(f: &mut fmt::Formatter, section: Section) -> fmt::Result {
         Section::Frames => "frames of the track",
         Section::Argument => "float argument",
         Section::List => "lent list",
+        Section::Written => "written length of the log",
     };
     write!(f, "\n{title:<34}{:>11}{:>11}", "tried", "accepted")?;
     for number in &NUMBERS[1..] {

@@ -188,6 +188,26 @@ answer!(LaxTrackChanged {} track: LaxTrack);
 answer!(LaxTrackUpdated { running: u32, Whole; } track: LaxTrack);
 
 #[repr(C)]
+#[derive(Clone, Copy, Debug, Default)]
+pub struct LaxEvent {
+    pub kind: u32,
+    pub step: f32,
+}
+
+unsafe impl Words for LaxEvent {
+    fn layout() -> Layout {
+        named(&[("kind", Whole), ("step", Float)])
+    }
+}
+
+#[repr(C)]
+#[derive(Clone, Copy)]
+pub struct LaxLogged {
+    pub written: usize,
+    pub number: u32,
+}
+
+#[repr(C)]
 #[derive(Clone, Copy)]
 pub struct LaxRun {
     pub done: usize,
@@ -218,4 +238,6 @@ const _: () = {
     assert!(size_of::<LaxTrackUpdated>() == 2080);
     assert!(size_of::<LaxRun>() == 96);
     assert!(size_of::<LaxFilled>() == 24);
+    assert!(size_of::<LaxEvent>() == 8);
+    assert!(size_of::<LaxLogged>() == 16);
 };

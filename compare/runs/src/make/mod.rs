@@ -1,10 +1,12 @@
 //! Inputs: random ones, and the edges of what the rules speak of.
 mod easings;
 mod floats;
+mod logs;
 mod tracks;
 mod tweens;
 
 pub use floats::EDGES;
+pub use logs::{LAST_NUMBERS, Log};
 pub use tracks::FRAME_COUNTS;
 
 /// A source of inputs. The same seed gives the same inputs.

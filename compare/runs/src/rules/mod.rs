@@ -1,9 +1,11 @@
 //! When a call is refused, and by which number: the rule book's table, written apart from the library.
 mod easing;
+mod log;
 mod track;
 mod tween;
 
 pub use easing::*;
+pub use log::*;
 pub use track::*;
 pub use tween::*;
 

@@ -1,9 +1,12 @@
-//! Each call: ours, and beside it what the rules and the Rust say.
+//! Each call: ours, and beside it what the rules and the Rust say. A log has no Rust beside it: its rules and
+//! a reader say it all.
 mod easing;
+mod log;
 mod track;
 mod tween;
 
 pub use easing::*;
+pub use log::*;
 pub use track::*;
 pub use tween::*;
 
