@@ -1,4 +1,5 @@
-//! animato's calls. None is inlined where it is called, so that a call stays a call, as it does from C.
+//! animato's calls, and a log's, which it has not. None is inlined where it is called, so that a call stays a call, as it does from C.
+use crate::words::LaxEvent;
 use oracle::{Easing, KeyframeTrack, Tween, Update};
 
 #[inline(never)]
@@ -34,4 +35,29 @@ pub fn values_at(track: &KeyframeTrack<f32>, times: &[f32], out: &mut [f32]) {
     for (place, time) in out.iter_mut().zip(times) {
         *place = value_at(track, *time).expect("the track has frames");
     }
+}
+
+#[inline(never)]
+pub fn log_head(buffer: &mut [u8]) -> Option<usize> {
+    buffer.get_mut(..5)?.copy_from_slice(b"PEL\x01\0");
+    Some(5)
+}
+
+/// The same checks, as one would write them in Rust.
+#[inline(never)]
+pub fn log_record(buffer: &mut [u8], written: usize, event: LaxEvent) -> Option<usize> {
+    let step = if event.kind == 1 { event.step } else { 0.0 };
+    let log = buffer.get(..written)?;
+    let number = match log.strip_prefix(b"PEL\x01\0")?.last_chunk::<8>() {
+        Some(last) => u16::from_le_bytes([last[0], last[1]]).wrapping_add(1),
+        None => 0,
+    };
+    if !(0.0..=16_777_216.0).contains(&step) || written % 8 != 5 {
+        return None;
+    }
+    let record = buffer.get_mut(written..written + 8)?;
+    record[..2].copy_from_slice(&number.to_le_bytes());
+    record[2..4].copy_from_slice(&[event.kind as u8, 0]);
+    record[4..].copy_from_slice(&(step + 0.0).to_le_bytes());
+    Some(written + 8)
 }

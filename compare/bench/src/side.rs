@@ -20,6 +20,12 @@ impl Answer for f32 {
     }
 }
 
+impl Answer for u8 {
+    fn bits(self) -> u64 {
+        self.into()
+    }
+}
+
 impl Answer for Option<f32> {
     fn bits(self) -> u64 {
         self.map_or(u64::MAX, f32::bits)

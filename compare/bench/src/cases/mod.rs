@@ -1,5 +1,6 @@
 //! What is timed, and the ratios to reach.
 mod easing;
+mod log;
 mod track;
 mod tween;
 
@@ -22,6 +23,7 @@ pub fn calls() -> Vec<Case> {
     let mut cases = easing::cases();
     cases.extend(tween::cases());
     cases.extend(track::cases());
+    cases.extend(log::cases());
     cases
 }
 
