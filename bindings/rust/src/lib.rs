@@ -1,7 +1,7 @@
-//! Proved easings, tweens and keyframe tracks, with animato's names, and the pump's event log. Each call answers a `Result`:
-//! what is refused is refused by number, exactly when the rules say, and a refused call changes
-//! nothing. What is promised, and where it is proved, stands in the repository's
-//! docs/CONTRACTS.md.
+//! Proved easings, tweens and keyframe tracks, with animato's names, and the pump's event log. Each
+//! call answers a `Result`: what is refused is refused by number, exactly when the rules say, and a
+//! refused call changes nothing. What is promised, and where it is proved, stands in the
+//! repository's docs/CONTRACTS.md.
 #![warn(missing_docs)]
 
 mod easing;
