@@ -23,5 +23,5 @@ unfolding recordsFrom ofBits toBits lt
 small-log = refl
 
 pub number-wraps : recordsFrom 65535 (Pause ∷ Pause ∷ []) ≡ 0xff ∷ 0xff ∷ 2 ∷ 0 ∷ 0 ∷ 0 ∷ 0 ∷ 0 ∷ 0 ∷ 0 ∷ 2 ∷ 0 ∷ 0 ∷ 0 ∷ 0 ∷ 0 ∷ []
-unfolding recordsFrom
+unfolding recordsFrom ofBits toBits lt
 number-wraps = refl

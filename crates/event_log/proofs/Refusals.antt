@@ -8,7 +8,7 @@ use lib.ListN.{length, take, drop}
 use Rattle.refusal.specs.declared.Refusal.the-variants.{StepTooLong, NoRoom, StepBelowZero, WrongMark, UnknownVersion, WrongLength}
 use Rattle.event_log.specs.declared.event.Event.{Event}
 use Rattle.event_log.specs.Format.{mark, version, head, recordOf, startsWith}
-use Rattle.event_log.specs.Writing.{refused, wrote, headIn, isLong, isForward, numberBehind, recordIn}
+use Rattle.event_log.specs.Writing.{refused, wrote, headIn, isLong, isBackward, numberBehind, recordIn}
 use Rattle.event_log.proofs.Heads.{head-whole}
 
 pub no-head : (buffer : List ℕ) → length buffer < 5 → headIn buffer ≡ refused buffer NoRoom
@@ -25,11 +25,11 @@ module _ (buffer : List ℕ) (written : ℕ) (e : Event) where
   too-long h = rw h
 
   module _ (short : isLong e ≡ false) where
-    pub backward : isForward e ≡ false → recordIn buffer written e ≡ refused buffer StepBelowZero
+    pub backward : isBackward e ≡ true → recordIn buffer written e ≡ refused buffer StepBelowZero
     unfolding recordIn
     backward h = rw (short, h)
 
-    module _ (forward : isForward e ≡ true) where
+    module _ (forward : isBackward e ≡ false) where
       pub beyond : length buffer < written → recordIn buffer written e ≡ refused buffer WrongLength
       unfolding recordIn
       beyond h = rw (short, forward, lt-leb written (length buffer) h)

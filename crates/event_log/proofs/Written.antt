@@ -1,7 +1,7 @@
 -- What the calls write is a log, and they write nothing else. Assumes nothing.
 use Prim.Native.Nat.{ℕ, _+_, _-_, _*_, _%_, _≤_}
 use mathlib.Core.Path.{_≡_, refl, sym, ap, _∙_}
-use mathlib.Core.Bool.{true, not}
+use mathlib.Core.Bool.{Bool, true, false, not, false≢true}
 use mathlib.Core.List.{List, [], _∷_, _++_, append-assoc, append-nil}
 use native.Mathlib.Nat.{mod-add-mod, mul-mod-right, zero-add}
 use native.Mathlib.Omega.{arith}
@@ -13,10 +13,13 @@ use lib.ListN.{length, take, drop, length-append, length-drop}
 use lib.Seq.{take-append-seam, drop-drop, drop-append-add}
 use Rattle.math.proofs.Lists.{every}
 use Rattle.math.proofs.Choice.{by-test, and-both}
+use Rattle.refusal.specs.declared.Refusal.{Refusal}
 use Rattle.refusal.specs.declared.Refusal.the-variants.{NoRoom}
 use Rattle.event_log.specs.declared.event.Event.{Event}
+use Rattle.event_log.specs.declared.writer.Logged.{Logged}
+use Rattle.event_log.specs.declared.writer.Logged.the-variants.{Written, Refused}
 use Rattle.event_log.specs.Format.{mark, version, head, recordOf, recordsFrom, logOf, startsWith}
-use Rattle.event_log.specs.Writing.{Writing, refused, wrote, headIn, isLong, isForward, isWhole, numberBehind, recordIn, mayBeLogged, recordsIn, Keeps}
+use Rattle.event_log.specs.Writing.{Writing, refused, wrote, headIn, isLong, isBackward, isWhole, numberBehind, recordIn, mayBeLogged, recordsIn, Keeps}
 use Rattle.event_log.proofs.Logs.{length-log, log-number, records-more}
 use Rattle.event_log.proofs.Refusals.{a-head, a-record}
 use Rattle.event_log.proofs.Places.{put-keeps, same-keeps}
@@ -35,13 +38,32 @@ record-keeps buffer written e =
     let K : Writing → Type 0 = λ w. Keeps written 8 buffer (w .buffer) in
     let same = same-keeps written 8 buffer in
     by-test K (isLong e) _ _ (λ _. same) (λ _.
-    by-test K (isForward e) _ _ (λ _.
+    by-test K (isBackward e) _ _ (λ _. same) (λ _.
     by-test K (leb written (length buffer)) _ _ (λ _.
     by-test K (startsWith mark log) _ _ (λ _.
     by-test K (startsWith version (drop 3 log)) _ _ (λ _.
     by-test K (isWhole written) _ _ (λ _.
     by-test K (leb (written + 8) (length buffer)) _ _ (λ h. put-keeps buffer written (recordOf (numberBehind log) e) (leb-true _ _ h))
-    (λ _. same)) (λ _. same)) (λ _. same)) (λ _. same)) (λ _. same)) (λ _. same))
+    (λ _. same)) (λ _. same)) (λ _. same)) (λ _. same)) (λ _. same)))
+
+isRefused : Logged → Bool
+isRefused (Written n) = false
+isRefused (Refused r) = true
+
+-- "other bytes stay": where a record is refused, all of them
+pub refused-stays : (buffer : List ℕ) (written : ℕ) (e : Event) (r : Refusal) → recordIn buffer written e .answer ≡ Refused r → recordIn buffer written e .buffer ≡ buffer
+unfolding recordIn isRefused
+refused-stays buffer written e r =
+    let log = take written buffer in
+    let K : Writing → Type 0 = λ w. w .answer ≡ Refused r → w .buffer ≡ buffer in
+    by-test K (isLong e) _ _ (λ _ _. refl) (λ _.
+    by-test K (isBackward e) _ _ (λ _ _. refl) (λ _.
+    by-test K (leb written (length buffer)) _ _ (λ _.
+    by-test K (startsWith mark log) _ _ (λ _.
+    by-test K (startsWith version (drop 3 log)) _ _ (λ _.
+    by-test K (isWhole written) _ _ (λ _.
+    by-test K (leb (written + 8) (length buffer)) _ _ (λ _ q. absurd (false≢true (ap isRefused q)))
+    (λ _ _. refl)) (λ _ _. refl)) (λ _ _. refl)) (λ _ _. refl)) (λ _ _. refl)))
 
 -- the number behind a log of n records
 behind : (es : List Event) → numberBehind (logOf es) ≡ length es % 65536
@@ -72,9 +94,9 @@ log-more buffer es e ok h =
     let rest = drop n buffer in
     let long = length-append log rest in
     let left = length-drop n buffer in
-    let both = and-both (not (isLong e)) (isForward e) ok in
+    let both = and-both (not (isLong e)) (not (isBackward e)) ok in
     let whole : (n - 5) % 8 ≡ 0 = ap (λ (k : ℕ). (k - 5) % 8) (length-log es) ∙ ap (λ (k : ℕ). k % 8) (omega arith) ∙ mul-mod-right 8 (length es) in
-    a-record (log ++ rest) n e (not-true (isLong e) (both .0)) (both .1) (omega arith) refl refl whole (omega arith)
+    a-record (log ++ rest) n e (not-true (isLong e) (both .0)) (not-true (isBackward e) (both .1)) (omega arith) refl refl whole (omega arith)
     ∙ ap (λ (k : ℕ). wrote (log ++ rest) n (recordOf k e)) (ap numberBehind (take-append-seam log rest) ∙ behind es)
     ∙ together buffer log (recordOf (length es % 65536) e)
     ∙ ap (wrote buffer 0) (sym (log-of-more es e))

@@ -3,7 +3,8 @@ use Prim.Native.Nat.{ℕ, zero, suc, _+_, _/_, _%_}
 use mathlib.Core.Bool.{Bool, true, false, _&&_}
 use mathlib.Core.List.{List, [], _∷_, _++_}
 use lib.Dec.{eqb}
-use lib.Ieee.{binary32, toBits}
+use lib.Ieee.{Float, binary32, toBits}
+use Rattle.math.specs.Rounded.{zeroF}
 use Rattle.math.specs.Range.{maxZeroOf}
 use Rattle.event_log.specs.declared.event.Event.{Event}
 use Rattle.event_log.specs.declared.event.Event.the-variants.{Step, Pause, Resume, Reset}
@@ -32,12 +33,20 @@ kindOf Pause = 2
 kindOf Resume = 3
 kindOf Reset = 4
 
--- "the step's f32 bits [..] (zero unless kind 1)"; "A step of -0 is written as +0"
+-- what an event steps by, in seconds: no step is +0
+abbrev pub stepOf : Event → Float
+stepOf (Step x) = x
+stepOf Pause = zeroF
+stepOf Resume = zeroF
+stepOf Reset = zeroF
+
+-- "A step of -0 is written as +0"
+abbrev pub patternOf : Float → ℕ
+patternOf x = toBits binary32 (maxZeroOf x)
+
+-- "the step's f32 bits [..] (zero unless kind 1)": those of +0 are zero
 abbrev pub bitsOf : Event → ℕ
-bitsOf (Step x) = toBits binary32 (maxZeroOf x)
-bitsOf Pause = 0
-bitsOf Resume = 0
-bitsOf Reset = 0
+bitsOf e = patternOf (stepOf e)
 
 -- "8-byte records: a 16-bit sequence number, one byte kind [..], one zero byte, and the step's f32 bits in four bytes"
 abbrev pub recordOf : ℕ → Event → List ℕ

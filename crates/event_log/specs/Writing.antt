@@ -1,21 +1,20 @@
 -- Request 2, "Write the event log": the two calls, and their refusals in their order.
 use Prim.Native.Nat.{ℕ, _+_, _-_, _*_, _%_, _<_, _≤_}
-use mathlib.Core.Bool.{Bool, true, false, not, _&&_, cond}
+use mathlib.Core.Bool.{Bool, not, _&&_, _||_, cond}
 use mathlib.Core.List.{List, [], _∷_, _++_}
 use mathlib.Core.Logic.{_⊎_}
 use mathlib.Core.Path.{_≡_}
 use lib.Dec.{leb, eqb}
 use lib.ListN.{length, getD, take, drop}
-use lib.Ieee.{lt, le}
+use lib.Ieee.{lt, isNan}
 use Rattle.math.specs.Rounded.{zeroF, topF}
 use Rattle.refusal.specs.declared.Refusal.{Refusal}
 use Rattle.refusal.specs.declared.Refusal.the-variants.{StepTooLong, NoRoom, StepBelowZero, WrongMark, UnknownVersion, WrongLength}
 use Rattle.refusal.specs.Refusing.{unless}
 use Rattle.event_log.specs.declared.event.Event.{Event}
-use Rattle.event_log.specs.declared.event.Event.the-variants.{Step, Pause, Resume, Reset}
 use Rattle.event_log.specs.declared.writer.Logged.{Logged}
 use Rattle.event_log.specs.declared.writer.Logged.the-variants.{Written, Refused}
-use Rattle.event_log.specs.Format.{mark, version, head, next, recordOf, startsWith}
+use Rattle.event_log.specs.Format.{mark, version, head, stepOf, next, recordOf, startsWith}
 
 -- what a call leaves: its answer, and every byte of the buffer
 pub record Writing : Type 0 where
@@ -36,17 +35,11 @@ headIn buffer = unless (leb 5 (length buffer)) (refused buffer NoRoom) (wrote bu
 
 -- 5: "an update's step is above 16,777,216 (infinity too)"
 abbrev pub isLong : Event → Bool
-isLong (Step x) = lt topF x
-isLong Pause = false
-isLong Resume = false
-isLong Reset = false
+isLong e = lt topF (stepOf e)
 
--- not 14: "step NaN or below zero"; -0 is not below zero
-abbrev pub isForward : Event → Bool
-isForward (Step x) = le zeroF x
-isForward Pause = true
-isForward Resume = true
-isForward Reset = true
+-- 14: "step NaN or below zero"
+abbrev pub isBackward : Event → Bool
+isBackward e = isNan (stepOf e) || lt (stepOf e) zeroF
 
 -- not 17: "5 plus a multiple of 8"
 abbrev pub isWhole : ℕ → Bool
@@ -65,7 +58,7 @@ unfoldable pub recordIn : List ℕ → ℕ → Event → Writing
 recordIn buffer written e =
     let log = take written buffer in
     cond (isLong e) (refused buffer StepTooLong)
-    (unless (isForward e) (refused buffer StepBelowZero)
+    (cond (isBackward e) (refused buffer StepBelowZero)
     (unless (leb written (length buffer)) (refused buffer WrongLength)
     (unless (startsWith mark log) (refused buffer WrongMark)
     (unless (startsWith version (drop 3 log)) (refused buffer UnknownVersion)
@@ -75,7 +68,7 @@ recordIn buffer written e =
 
 -- neither 5 nor 14
 abbrev pub mayBeLogged : Event → Bool
-mayBeLogged e = not (isLong e) && isForward e
+mayBeLogged e = not (isLong e) && not (isBackward e)
 
 -- a call behind another: it goes on where that one ended, and behind a refusal nothing is called
 abbrev pub goOn : Writing → (List ℕ → ℕ → Writing) → Writing

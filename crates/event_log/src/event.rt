@@ -1,7 +1,6 @@
 // What is done to a tween, and a record of it.
 ghost use mathlib.Core.Path.{_≡_};
-ghost use Rattle.event_log.specs.Format.{kindOf, bitsOf, recordOf};
-ghost use Rattle.event_log.specs.Writing.{isLong, isForward};
+ghost use Rattle.event_log.specs.Format.{kindOf, stepOf, patternOf, recordOf};
 
 pub enum Event {
     // An update, by so many seconds.
@@ -23,52 +22,33 @@ impl Event {
         }
     }
 
-    // The step's pattern, -0 as +0; 0 for what is no step.
-    fn bits(self) -> u32
-        ensures { λ r. ⌜ r ≡ bitsOf self ⌝ }
+    // In seconds; 0 for what is no step.
+    pub(crate) fn step(self) -> f32
+        ensures { λ r. ⌜ r ≡ stepOf self ⌝ }
     {
         match self {
-            Event::Step(x) => {
-                if x > 0.0 {
-                    return f32::to_bits(x);
-                }
-                0
-            }
-            Event::Pause => 0,
-            Event::Resume => 0,
-            Event::Reset => 0,
+            Event::Step(x) => x,
+            Event::Pause => 0.0,
+            Event::Resume => 0.0,
+            Event::Reset => 0.0,
         }
     }
+}
 
-    // Whether it is a step above 16,777,216 seconds.
-    pub(crate) fn is_long(self) -> bool
-        ensures { λ r. ⌜ r ≡ isLong self ⌝ }
-    {
-        match self {
-            Event::Step(x) => x > 16777216.0,
-            Event::Pause => false,
-            Event::Resume => false,
-            Event::Reset => false,
-        }
+// The step's pattern, -0 as +0.
+fn pattern(x: f32) -> u32
+    ensures { λ r. ⌜ r ≡ patternOf x ⌝ }
+{
+    if x > 0.0 {
+        return f32::to_bits(x);
     }
-
-    // Whether it is no step, or one that is neither NaN nor below 0.
-    pub(crate) fn is_forward(self) -> bool
-        ensures { λ r. ⌜ r ≡ isForward self ⌝ }
-    {
-        match self {
-            Event::Step(x) => x >= 0.0,
-            Event::Pause => true,
-            Event::Resume => true,
-            Event::Reset => true,
-        }
-    }
+    0
 }
 
 pub(crate) fn record(number: u16, event: Event) -> [u8; 8]
     ensures { λ r. ⌜ r ≡ recordOf number event ⌝ }
 {
-    let bits = event.bits();
+    let bits = pattern(event.step());
     [
         (number % 256) as u8,
         (number / 256 % 256) as u8,

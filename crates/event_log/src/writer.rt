@@ -62,10 +62,11 @@ pub fn write_record(buffer: &mut [u8], written: usize, event: Event) -> Logged
     ensures answer { λ r. ⌜ r ≡ recordIn (now (buffer .entry)) written event .answer ⌝ }
     ensures bytes { λ _. ⌜ now (buffer .exit) ≡ recordIn (now (buffer .entry)) written event .buffer ⌝ }
 {
-    if event.is_long() {
+    let step = event.step();
+    if step > 16777216.0 {
         return Logged::Refused(Refusal::StepTooLong);
     }
-    if !event.is_forward() {
+    if math::is_nan(step) | (step < 0.0) {
         return Logged::Refused(Refusal::StepBelowZero);
     }
     if written > buffer.len() {

@@ -8,6 +8,7 @@ record-spec =
     tie.close
     (tie.spec
     (λ c κs. search needs)
+    (λ c κs. search needs)
     (λ c. search needs)
     (λ c. search needs)
     (λ c κs. search needs)
@@ -15,4 +16,4 @@ record-spec =
     (λ c. search needs)
     (λ c. search needs)
     (λ c. search needs)
-    (λ c. simp (c .kind .ensures, c .before .bits .ensures)))
+    (λ c. simp (c .kind .ensures, c .before .pattern .ensures, c .before .before .step .ensures)))
