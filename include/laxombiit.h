@@ -4,11 +4,11 @@
  * allocates. Each answer has a number: 0 where the call was accepted, the number of the refusal
  * where it was refused, LAX_UNKNOWN_WORD where a word is no kind, no mode or no state. Where the
  * number is not 0 the rest of the answer is 0, but for a record or a log's length, which is then the
- * one that came, and lent lists are not written; lax_run says where a run of steps differs. A list
- * that is written overlaps no other.
+ * one that came, and lent lists are not written; lax_run and lax_replayed say where a run of steps and a
+ * replay differ. A list that is written overlaps no other.
  *
  * A call refuses by the first rule that applies, in this order:
- * 4, 1, 2, 3, 5, 11, 10, 12, 9, 6, 7, 8; a record of a log has an order of its own. LAX_UNKNOWN_WORD
+ * 4, 1, 2, 3, 5, 11, 10, 12, 9, 6, 7, 8; the calls of a log have orders of their own. LAX_UNKNOWN_WORD
  * comes before them all.
  *
  * Link with liblaxombiit.a and -lm: the time within a pass of a track takes C's fmodf.
@@ -44,6 +44,7 @@ enum {
     LAX_WRONG_MARK = 15,         /* a log's mark is wrong or cut short */
     LAX_UNKNOWN_VERSION = 16,    /* a log's version is unknown or cut short */
     LAX_WRONG_LENGTH = 17,       /* a log is longer than its buffer, or its records are not whole */
+    LAX_WRONG_RECORD = 18,       /* a record that is read has a wrong kind, zero byte or step */
     LAX_UNKNOWN_WORD = 100       /* a word is no kind, no mode or no state */
 };
 
@@ -244,6 +245,25 @@ typedef struct lax_logged {
     uint32_t number;
 } lax_logged;
 
+/* A number that no record has: nothing is read yet. */
+enum { LAX_NO_RECORD = 65536 };
+
+/* How far a replay has come. Both sums stay at 18,446,744,073,709,551,615 where they would pass it. */
+typedef struct lax_replay {
+    uint64_t missing; /* records known to be missing, repeats apart */
+    uint64_t folds;   /* of all updates that were replayed */
+    uint32_t last;    /* the number of the last record, or LAX_NO_RECORD */
+    lax_tween tween;
+} lax_replay;
+
+/* done: how many records were read, and so, where number is not 0, the place of the record that was
+ * refused. reached is how far the replay had come before that record. */
+typedef struct lax_replayed {
+    size_t done;
+    uint32_t number;
+    lax_replay reached;
+} lax_replayed;
+
 /* The layout that the archive was built for. */
 typedef char lax_size_of_easing[sizeof(lax_easing) == 24 ? 1 : -1];
 typedef char lax_size_of_loop[sizeof(lax_loop) == 8 ? 1 : -1];
@@ -263,6 +283,8 @@ typedef char lax_size_of_track_updated[sizeof(lax_track_updated) == 2080 ? 1 : -
 typedef char lax_size_of_filled[sizeof(lax_filled) == 24 ? 1 : -1];
 typedef char lax_size_of_event[sizeof(lax_event) == 8 ? 1 : -1];
 typedef char lax_size_of_logged[sizeof(lax_logged) == 16 ? 1 : -1];
+typedef char lax_size_of_replay[sizeof(lax_replay) == 96 ? 1 : -1];
+typedef char lax_size_of_replayed[sizeof(lax_replayed) == 112 ? 1 : -1];
 
 /* Easings. */
 
@@ -357,6 +379,20 @@ lax_logged lax_log_head(uint8_t *buffer, size_t buffer_len);
  * for the step, 17 where `written` is beyond the buffer, 15, 16, 17 where it is not 5 plus a multiple
  * of 8, and 13, in this order. */
 lax_logged lax_log_record(uint8_t *buffer, size_t buffer_len, size_t written, lax_event event);
+
+/* A log from its head on, replayed into a tween. For each record that is read, how many are missing
+ * before it goes into gaps: 0 for the first; 65,535 marks the number of the record before again, a
+ * repeat, which is not replayed. Refuses 4, 15, 16, 17 where the last record is not whole, and 12 where
+ * gaps is shorter than the records are many, in this order, before any record is replayed. It stops at
+ * the first record that the tween refuses, or that is wrong, 18; gaps is unwritten from there on. A
+ * loss of 65,535 records or more between two can't be told rightly. */
+lax_replayed lax_log_replay(lax_tween t, const uint8_t *log, size_t log_len, uint16_t *gaps, size_t gaps_len);
+
+/* Goes on with the whole records that follow: a log read part by part gives what it gives in one call.
+ * Refuses 17 and 12, and stops, as lax_log_replay; LAX_UNKNOWN_WORD for a `last` above LAX_NO_RECORD
+ * too. done counts the records of this part. */
+lax_replayed lax_log_replay_on(lax_replay reached, const uint8_t *records, size_t records_len, uint16_t *gaps,
+                               size_t gaps_len);
 
 #ifdef __cplusplus
 }

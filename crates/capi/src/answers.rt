@@ -240,7 +240,7 @@ pub fn updated_words(w: LaxTween, a: Updated) -> LaxUpdated
     }
 }
 
-fn outcome_number(outcome: Outcome) -> u32
+pub fn outcome_number(outcome: Outcome) -> u32
     ensures { λ r. ⌜ r ≡ outcomeNumber outcome ⌝ }
 {
     match outcome {

@@ -3,6 +3,7 @@
 mod answers;
 mod easings;
 mod logs;
+mod replays;
 mod track_answers;
 mod tracks;
 mod tweens;
@@ -17,6 +18,8 @@ pub use answers::LaxUpdated;
 pub use answers::LaxValue;
 pub use logs::LaxEvent;
 pub use logs::LaxLogged;
+pub use replays::LaxReplay;
+pub use replays::LaxReplayed;
 pub use track_answers::LaxFilled;
 pub use track_answers::LaxTrackChanged;
 pub use track_answers::LaxTrackUpdated;

@@ -1,10 +1,10 @@
 // The calls that write a log.
 ghost use mathlib.Core.Path.{_≡_};
-ghost use Rattle.event_log.specs.Format.{mark, version, startsWith};
 ghost use Rattle.event_log.specs.Writing.{headIn, recordIn, numberBehind};
-ghost use lib.ListN.{drop};
 use crate::event::Event;
 use crate::event::record;
+use crate::head::has_mark;
+use crate::head::has_version;
 use refusal::Refusal;
 
 // How long the written log is now, in bytes, or why nothing was written.
@@ -24,24 +24,6 @@ pub fn write_head(buffer: &mut [u8]) -> Logged
     let head = [b'P', b'E', b'L', 1, 0];
     bytes::copy(&head, buffer);
     Logged::Written(5)
-}
-
-fn has_mark(log: &[u8]) -> bool
-    ensures { λ r. ⌜ r ≡ startsWith mark (now (log .entry)) ⌝ }
-{
-    if log.len() < 3 {
-        return false;
-    }
-    (log[0] == b'P') & (log[1] == b'E') & (log[2] == b'L')
-}
-
-fn has_version(log: &[u8]) -> bool
-    ensures { λ r. ⌜ r ≡ startsWith version (drop 3 (now (log .entry))) ⌝ }
-{
-    if log.len() < 5 {
-        return false;
-    }
-    (log[3] == 1) & (log[4] == 0)
 }
 
 // The number of the record that goes behind a log.

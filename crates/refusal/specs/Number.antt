@@ -1,7 +1,7 @@
 -- Document 01, "Refusal numbers", and the later requests: the number of each refusal, in the table's order.
 use Prim.Native.Nat.{ℕ}
 use Rattle.refusal.specs.declared.Refusal.{Refusal}
-use Rattle.refusal.specs.declared.Refusal.the-variants.{ProgressIsNan, EasingNotSupplied, EasingParameter, RecordBreaksLimit, StepTooLong, StepLost, TooManyFolds, ElapsedTooLong, TrackFull, NoFrames, TrackLimit, OutputTooShort, NoRoom, StepBelowZero, WrongMark, UnknownVersion, WrongLength}
+use Rattle.refusal.specs.declared.Refusal.the-variants.{ProgressIsNan, EasingNotSupplied, EasingParameter, RecordBreaksLimit, StepTooLong, StepLost, TooManyFolds, ElapsedTooLong, TrackFull, NoFrames, TrackLimit, OutputTooShort, NoRoom, StepBelowZero, WrongMark, UnknownVersion, WrongLength, WrongRecord}
 
 abbrev pub numberOf : Refusal → ℕ
 numberOf ProgressIsNan = 1
@@ -21,3 +21,4 @@ numberOf StepBelowZero = 14
 numberOf WrongMark = 15
 numberOf UnknownVersion = 16
 numberOf WrongLength = 17
+numberOf WrongRecord = 18

@@ -37,10 +37,12 @@ pub enum Refusal {
     UnknownVersion,
     // The written log is longer than the buffer, or its records are not whole.
     WrongLength,
+    // A record that is read has a wrong kind, a zero byte that is not 0, or a wrong step.
+    WrongRecord,
 }
 
 impl Refusal {
-    // The refusal's number in the table of refusals, from 1 to 17.
+    // The refusal's number in the table of refusals, from 1 to 18.
     pub fn number(self) -> u32
         ensures { λ r. ⌜ r ≡ numberOf self ⌝ }
     {
@@ -62,6 +64,7 @@ impl Refusal {
             Refusal::WrongMark => 15,
             Refusal::UnknownVersion => 16,
             Refusal::WrongLength => 17,
+            Refusal::WrongRecord => 18,
         }
     }
 }

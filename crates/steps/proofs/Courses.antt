@@ -7,8 +7,8 @@ use native.Mathlib.Nat.{add-zero, zero-add}
 use native.Mathlib.Numerals.{add-one}
 use native.Mathlib.Omega.{arith}
 use borrow.Author.Tests.{le-leb, lt-leb}
-use lib.ListN.{length, drop, getD, set, length-append, length-set}
-use lib.Seq.{drop-cons, drop-length, set-at}
+use lib.ListN.{length, drop, getD, set, length-set}
+use lib.Seq.{drop-cons, drop-length}
 use lib.Ieee.{Float, nan}
 use mir.Val.{boolByte}
 use Rattle.math.proofs.Tallies.{byte-below, byte-more}
@@ -20,6 +20,7 @@ use Rattle.tween.specs.Limits.{withinOf}
 use Rattle.steps.specs.declared.take.Taken.the-variants.{Took, Stops}
 use Rattle.steps.specs.declared.run.Outcome.{Outcome}
 use Rattle.steps.specs.declared.run.Outcome.the-variants.{Finished, Refused}
+use Rattle.steps.proofs.Fronts.{Written, more}
 use Rattle.steps.specs.Course.{stepOf, Course, ended, stopped, courseOf, runOf, answerOf, over}
 
 -- values, folds and a count that come before those of a course
@@ -29,17 +30,6 @@ behind vs fs n c = record { tween = c .tween; values = vs ++ c .values; folds = 
 -- one value counted on the way, or with those behind it
 one-more : (b : Bool) (n m : ℕ) → n + cond b (suc m) m ≡ n + boolByte b + m
 one-more b n m = omega (arith, byte-more b m)
-
--- a front of i places is written, and behind it a list is as it was
-abbrev Written : {A : Type 0} → List A → ℕ → List A → List A → Type 0
-Written {A} front i l was = (length front ≡ i) × (l ≡ front ++ drop i was)
-
--- one place more
-more : {A : Type 0} (d : A) (front : List A) (i : ℕ) (l was : List A) (x : A) → i < length was → Written front i l was → Written (front ++ (x ∷ [])) (i + 1) (set l i x) was
-more {A} d front i l was x h (n, e) = (
-  length-append front (x ∷ []) ∙ ap (λ (k : ℕ). k + 1) n,
-  rw (e, add-one, append-assoc, drop-cons was i d h) (set-at front (getD was i d) (drop (suc i) was) x i n),
-)
 
 pub record Reached (steps values₀ : List Float) (folds₀ : List ℕ) (t₀ : Tween) (values : List Float) (folds : List ℕ) (t : Tween) (n i : ℕ) : Type 0 where
   pub front : List Float

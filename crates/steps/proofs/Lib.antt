@@ -1,2 +1,3 @@
+pub mod Fronts
 mod Courses
 mod Taking

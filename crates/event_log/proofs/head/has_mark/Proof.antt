@@ -2,8 +2,8 @@
 use borrow.Author.Needs.{needs}
 use denote.Ref.{now}
 use Rattle.event_log.proofs.Heads.{mark-short, mark-read}
-use Rattle.event_log.proofs.writer.has_mark.Statement.{statement}
-use Rattle.event_log.proofs.writer.has_mark.Tie as tie
+use Rattle.event_log.proofs.head.has_mark.Statement.{statement}
+use Rattle.event_log.proofs.head.has_mark.Tie as tie
 
 pub has-mark-spec : {M : Type 1} → statement M
 has-mark-spec =

@@ -2,8 +2,8 @@
 use borrow.Author.Needs.{needs}
 use denote.Ref.{now}
 use Rattle.event_log.proofs.Heads.{version-short, version-read}
-use Rattle.event_log.proofs.writer.has_version.Statement.{statement}
-use Rattle.event_log.proofs.writer.has_version.Tie as tie
+use Rattle.event_log.proofs.head.has_version.Statement.{statement}
+use Rattle.event_log.proofs.head.has_version.Tie as tie
 
 pub has-version-spec : {M : Type 1} → statement M
 has-version-spec =

@@ -1,0 +1,77 @@
+-- How a reading stands after its first i records, and how it goes on and ends from there. Assumes nothing.
+use Prim.Native.Nat.{ℕ, suc, _+_, _*_, _%_, _/_, _<_, _≤_}
+use mathlib.Core.Path.{_≡_, refl, sym, ap, _∙_}
+use mathlib.Core.List.{List, [], _∷_, _++_, append-assoc, append-nil}
+use native.Mathlib.Omega.{arith}
+use lib.ListN.{length, take, drop, set, length-drop, length-set}
+use lib.Seq.{drop-drop, drop-length}
+use Rattle.refusal.specs.declared.Refusal.{Refusal}
+use Rattle.steps.specs.declared.run.Outcome.{Outcome}
+use Rattle.steps.specs.declared.run.Outcome.the-variants.{Finished, Refused}
+use Rattle.steps.specs.Course.{over}
+use Rattle.steps.proofs.Fronts.{Written, more}
+use Rattle.reader.specs.declared.hear.Replay.{Replay}
+use Rattle.reader.specs.declared.hear.Heard.the-variants.{Goes, Stops}
+use Rattle.reader.specs.Records.{split, recordsOf}
+use Rattle.reader.specs.Hearing.{heardOf}
+use Rattle.reader.specs.Reading.{Reading, ended, readingOf, answerOf}
+
+-- the first record, and the rest
+pub records-cons : (l : List ℕ) → 8 ≤ length l → recordsOf l ≡ take 8 l ∷ recordsOf (drop 8 l)
+unfolding split
+records-cons l h = let e : length l / 8 ≡ suc (length (drop 8 l) / 8) = omega (arith, length-drop 8 l) in ap (λ (n : ℕ). split n l) e
+
+-- gaps that come before those of a reading
+abbrev behind : List ℕ → Reading → Reading
+behind front c = record { gaps = front ++ c .gaps; replay = c .replay; outcome = c .outcome }
+
+pub record Reached (bytes gaps₀ : List ℕ) (s₀ : Replay) (gaps : List ℕ) (s : Replay) (at i : ℕ) : Type 0 where
+  pub front : List ℕ
+  pub gaps-are : Written front i gaps gaps₀
+  pub reading-is : readingOf (recordsOf bytes) s₀ ≡ behind front (readingOf (recordsOf (drop at bytes)) s)
+  pub gaps-long : length gaps ≡ length gaps₀
+  pub at-is : at ≡ 8 * i
+  pub few : at ≤ length bytes
+
+module _ (bytes gaps₀ : List ℕ) (s₀ : Replay) where
+  pub begins : Reached bytes gaps₀ s₀ gaps₀ s₀ 0 0
+  begins = record { front = []; gaps-are = (refl, refl); reading-is = refl; gaps-long = refl; at-is = omega arith; few = omega arith }
+
+  module _ (whole : length bytes % 8 ≡ 0) (room : length bytes / 8 ≤ length gaps₀) (gaps : List ℕ) (s : Replay) (at i : ℕ) (r : Reached bytes gaps₀ s₀ gaps s at i) where
+    -- the record here is whole
+    pub here : at < length bytes → at + 8 ≤ length bytes
+    here h = omega (arith, r .at-is)
+
+    -- and has a place in the list
+    pub place : at < length bytes → i < length gaps
+    place h = omega (arith, r .at-is, r .gaps-long)
+
+    next-record : at < length bytes → recordsOf (drop at bytes) ≡ take 8 (drop at bytes) ∷ recordsOf (drop (at + 8) bytes)
+    next-record h = records-cons (drop at bytes) (omega (arith, length-drop at bytes, here h)) ∙ ap (λ (l : List ℕ). take 8 (drop at bytes) ∷ recordsOf l) (drop-drop 8 at bytes)
+
+    pub goes-on : (g : ℕ) (u : Replay) → at < length bytes → heardOf s (take 8 (drop at bytes)) ≡ Goes g u → Reached bytes gaps₀ s₀ (set gaps i g) u (at + 8) (i + 1)
+    unfolding readingOf
+    goes-on g u h e =
+        record {
+          front = r .front ++ (g ∷ []);
+          gaps-are = more 0 (r .front) i gaps gaps₀ g (omega (arith, place h, r .gaps-long)) (r .gaps-are);
+          reading-is = r .reading-is ∙ (rw (next-record h, e, append-assoc));
+          gaps-long = length-set gaps i g ∙ r .gaps-long;
+          at-is = omega (arith, r .at-is);
+          few = omega (arith, here h);
+        }
+
+    -- the reading ends here
+    ends : (o : Outcome) → readingOf (recordsOf (drop at bytes)) s ≡ ended s o
+        → (record { reached = s; done = i; outcome = o } ≡ answerOf (readingOf (recordsOf bytes) s₀)) × (gaps ≡ over (readingOf (recordsOf bytes) s₀ .gaps) gaps₀)
+    ends o e = rw (r .reading-is, e, append-nil (r .front), r .gaps-are .0) (refl, r .gaps-are .1)
+
+    pub stops : (x : Refusal) → at < length bytes → heardOf s (take 8 (drop at bytes)) ≡ Stops x
+        → (record { reached = s; done = i; outcome = Refused x } ≡ answerOf (readingOf (recordsOf bytes) s₀)) × (gaps ≡ over (readingOf (recordsOf bytes) s₀ .gaps) gaps₀)
+    unfolding readingOf
+    stops x h e = ends (Refused x) (rw (next-record h, e))
+
+    pub finishes : length bytes ≤ at
+        → (record { reached = s; done = i; outcome = Finished } ≡ answerOf (readingOf (recordsOf bytes) s₀)) × (gaps ≡ over (readingOf (recordsOf bytes) s₀ .gaps) gaps₀)
+    unfolding readingOf split
+    finishes h = let e : at ≡ length bytes = omega (arith, r .few) in ends Finished (ap (λ (n : ℕ). readingOf (recordsOf (drop n bytes)) s) e ∙ (rw (drop-length bytes)))

@@ -1,0 +1,11 @@
+// Reads an event log back: replays it into a tween, and counts what is missing.
+mod gaps;
+mod hear;
+mod read;
+mod record;
+
+pub use gaps::Last;
+pub use hear::Replay;
+pub use read::Replayed;
+pub use read::replay;
+pub use read::replay_on;
