@@ -48,11 +48,16 @@ log-number es i h =
     rw (add-assoc 5 (8 * i) 1, getD-append-add head rest (8 * i) 0, getD-append-add head rest (8 * i + 1) 0)
     (records-number 0 es i (omega arith) h ∙ ap (λ (m : ℕ). m % 65536) (zero-add i))
 
--- a record behind others goes on with their numbers
+-- records behind others go on with their numbers
+pub records-append : (n : ℕ) (ds es : List Event) → n < 65536 → recordsFrom n (ds ++ es) ≡ recordsFrom n ds ++ recordsFrom ((n + length ds) % 65536) es
+unfolding recordsFrom
+records-append n [] es h = rw (add-zero n, mod-eq-of-lt h) refl
+records-append n (d ∷ ds) es h = rw (records-append (next n) ds es (below (n + 1)), wraps n (length ds), append-assoc) refl
+
+-- and so does one
 pub records-more : (n : ℕ) (es : List Event) (e : Event) → n < 65536 → recordsFrom n (es ++ (e ∷ [])) ≡ recordsFrom n es ++ recordOf ((n + length es) % 65536) e
 unfolding recordsFrom
-records-more n [] e h = rw (add-zero n, mod-eq-of-lt h, append-nil) refl
-records-more n (x ∷ es) e h = rw (records-more (next n) es e (below (n + 1)), wraps n (length es), append-assoc) refl
+records-more n es e h = records-append n es (e ∷ []) h ∙ (rw append-nil refl)
 
 -- a log in parts: behind the head and one record of a log, with nothing between them, the number is the one that is due behind that record
 pub part-number : (n : ℕ) (e : Event) → n < 65536 → numberBehind (head ++ recordOf n e) ≡ next n

@@ -5,3 +5,10 @@ pub mod Eights
 pub mod Heard
 pub mod Readings
 pub mod Refusals
+pub mod Recorded
+pub mod Parts
+pub mod GivenBack
+pub mod Followed
+pub mod Dropped
+pub mod Without
+pub mod Demanded

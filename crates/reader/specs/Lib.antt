@@ -1,3 +1,4 @@
 pub mod Records
 pub mod Hearing
 pub mod Reading
+pub mod Promises

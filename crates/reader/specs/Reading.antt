@@ -69,10 +69,12 @@ replayOf t log list =
 abbrev pub answerOf : Reading → Replayed
 answerOf c = record { reached = c .replay; done = length (c .gaps); outcome = c .outcome }
 
--- a reading, and what follows it in the log: behind a refusal nothing is read
+-- a reading that ended so, and what follows it in the log: behind a refusal nothing is read
+abbrev pub joinedBy : Outcome → Reading → (Replay → Reading) → Reading
+joinedBy Finished c rest =
+    let d = rest (c .replay) in
+    record { gaps = c .gaps ++ d .gaps; replay = d .replay; outcome = d .outcome }
+joinedBy (Refused r) c rest = c
+
 abbrev pub joined : Reading → (Replay → Reading) → Reading
-joined c rest = on (c .outcome)
-  where
-    on : Outcome → Reading
-    on Finished = let d = rest (c .replay) in record { gaps = c .gaps ++ d .gaps; replay = d .replay; outcome = d .outcome }
-    on (Refused r) = c
+joined c rest = joinedBy (c .outcome) c rest

@@ -1,0 +1,116 @@
+-- Request 3, "Read it back and count the gaps": what holds of every replay. Each sentence is a type; its proof has its name in small letters.
+use Prim.Native.Nat.{ℕ, _+_, _-_, _*_, _/_, _%_, _<_, _≤_}
+use mathlib.Core.Path.{_≡_}
+use mathlib.Core.Bool.{Bool, true, false, cond}
+use mathlib.Core.List.{List, [], _∷_, _++_, map}
+use lib.Dec.{T, ltb, eqb}
+use lib.ListN.{length, getD, take, drop, replicate}
+use lib.Ieee.{binary32, fits}
+use Rattle.math.specs.Rounded.{wholeF}
+use Rattle.tween.specs.declared.record.Tween.{Tween}
+use Rattle.tween.specs.declared.answers.Changed.the-variants as changed
+use Rattle.tween.specs.Limits.{withinOf}
+use Rattle.tween.specs.Calls.{resetOf}
+use Rattle.history.specs.History.{Act, step, pause, resume, AllSmall, Past, afterAll, fresh, scaled, Settings, Holds}
+use Rattle.steps.specs.declared.run.Outcome.the-variants.{Finished}
+use Rattle.event_log.specs.declared.event.Event.{Event}
+use Rattle.event_log.specs.declared.event.Event.the-variants.{Step, Pause, Resume}
+use Rattle.event_log.specs.Format.{stepOf, logOf}
+use Rattle.event_log.specs.Writing.{isLong, isBackward}
+use Rattle.reader.specs.declared.hear.Replay.{Replay}
+use Rattle.reader.specs.declared.hear.Played.{Played}
+use Rattle.reader.specs.declared.hear.Played.the-variants.{Done, Refused}
+use Rattle.reader.specs.Records.{recordsOf, eventIn}
+use Rattle.reader.specs.Hearing.{capped, playedOf}
+use Rattle.reader.specs.Reading.{Reading, readOnOf, replayOf, joined}
+
+-- what "a run of updates, pauses, resumes and resets alone" leaves: the tween, "its accepted calls, in order", and the folds of its updates
+pub record Ran : Type 0 where
+  pub tween : Tween
+  pub calls : List Event
+  pub folds : ℕ
+
+-- a call of a run, and the rest; a refused one hands the tween back
+abbrev pub ranOn : Played → Event → Tween → (Tween → Ran) → Ran
+ranOn (Done u k) e t rest =
+    let c = rest u in
+    record { tween = c .tween; calls = e ∷ c .calls; folds = k + c .folds }
+ranOn (Refused r) e t rest = rest t
+
+unfoldable pub ranOf : List Event → Tween → Ran
+ranOf [] t = record { tween = t; calls = []; folds = 0 }
+ranOf (e ∷ es) t = ranOn (playedOf t e) e t (ranOf es)
+
+-- a step is an f32, and neither NaN nor below zero: such an update the writer refuses, 14
+abbrev pub Forward : Event → Type 0
+Forward e = T (fits binary32 (stepOf e)) × (isBackward e ≡ false)
+
+abbrev pub AllForward : List Event → Type 0
+AllForward [] = Unit {0}
+AllForward (e ∷ es) = Forward e × AllForward es
+
+-- "For a run of updates, pauses, resumes and resets alone, a log by our writer that holds just its accepted calls, in order, gives no gaps and, from the same tween, the tween that the run left": it is read to its end, with nothing missing and the run's folds
+abbrev pub GivesBack : Type 0
+GivesBack =
+    (t : Tween) (es : List Event) (list : List ℕ) → withinOf t ≡ true → AllForward es
+    → let run = ranOf es t in length (run .calls) ≤ length list
+    → let c = replayOf t (logOf (run .calls)) list in
+    (c .gaps ≡ replicate (length (run .calls)) 0)
+    × (c .outcome ≡ Finished)
+    × (c .replay .tween ≡ run .tween)
+    × (c .replay .missing ≡ 0)
+    × (c .replay .folds ≡ capped (run .folds))
+
+-- an event that the writer takes, neither 5 nor 14
+abbrev pub Logged : Event → Type 0
+Logged e = Forward e × (isLong e ≡ false)
+
+abbrev pub AllLogged : List Event → Type 0
+AllLogged [] = Unit {0}
+AllLogged (e ∷ es) = Logged e × AllLogged es
+
+-- a log without k of its records, from the one at place i on
+abbrev pub without : ℕ → ℕ → List ℕ → List ℕ
+without i k log = take (5 + 8 * i) log ++ drop (5 + 8 * (i + k)) log
+
+-- "how many are missing before it", where k consecutive records, from 1 to 65,534, are dropped from the middle of a log by our writer: exactly k before the first record behind them, none before any other; and the total is k once that record is read
+abbrev pub CountsDropped : Type 0
+CountsDropped =
+    (t : Tween) (es : List Event) (i k : ℕ) (list : List ℕ) → AllLogged es → 1 ≤ i → 1 ≤ k → k ≤ 65534 → i + k < length es
+    → let c = replayOf t (without i k (logOf es)) list in
+    ((j : ℕ) → j < length (c .gaps) → getD (c .gaps) j 0 ≡ cond (eqb j i) k 0)
+    × (c .replay .missing ≡ cond (ltb i (length (c .gaps))) k 0)
+
+-- an act of demand 3, as a log has it
+abbrev pub eventOf : Act → Event
+eventOf (step n) = Step (wholeF n)
+eventOf pause = Pause
+eventOf resume = Resume
+
+-- "Demand 3 holds for a replay, from its tween and whole steps, with no gap and no reset record, its folds being that sum, short of the cap". The records that were read tell of the acts
+abbrev pub ReplayDemand3 : Type 0
+ReplayDemand3 =
+    (t u : Tween) (D W s : ℕ) → Settings t D W s → resetOf t ≡ changed.Done u
+    → (log list : List ℕ) (acts : List Act) → AllSmall acts
+    → let c = replayOf u log list in
+    map eventIn (take (length (c .gaps)) (recordsOf (drop 5 log))) ≡ map eventOf acts
+    → c .gaps ≡ replicate (length acts) 0
+    → c .replay .folds < 18446744073709551615
+    → let h : Past = record { tween = c .replay .tween; taken = afterAll (fresh u) acts .taken; made = c .replay .folds } in
+    Holds (t .looping) D s (scaled s W (h .taken)) h
+
+-- so many bytes are whole records, and a list has a place for each
+abbrev pub Fits : List ℕ → List ℕ → Type 0
+Fits bytes list = (length bytes % 8 ≡ 0) × (length bytes / 8 ≤ length list)
+
+-- "A log of any length is read in one pass [..] a chunk at a time": part after part gives what the whole gives. first, second and list are lent for the parts and for the whole
+abbrev pub PartByPart : Type 0
+PartByPart =
+    (s : Replay) (bytes more first second list : List ℕ) → Fits bytes first → Fits more second → Fits (bytes ++ more) list
+    → readOnOf s (bytes ++ more) list ≡ joined (readOnOf s bytes first) (λ u. readOnOf u more second)
+
+-- and so for the first part, which has the head
+abbrev pub LogPartByPart : Type 0
+LogPartByPart =
+    (t : Tween) (log more first second list : List ℕ) → 5 ≤ length log → Fits (drop 5 log) first → Fits more second → Fits (drop 5 (log ++ more)) list
+    → replayOf t (log ++ more) list ≡ joined (replayOf t log first) (λ u. readOnOf u more second)
