@@ -62,6 +62,7 @@ int main(void)
     test_tweens();
     test_tracks();
     test_logs();
+    test_replays();
     printf("C interface: %d hold, %d fail\n", held, failed);
     return failed != 0;
 }

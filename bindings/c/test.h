@@ -27,5 +27,6 @@ void test_easings(void);
 void test_tweens(void);
 void test_tracks(void);
 void test_logs(void);
+void test_replays(void);
 
 #endif

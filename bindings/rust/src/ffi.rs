@@ -135,6 +135,33 @@ pub struct LaxFilled {
     pub number: u32,
 }
 
+#[repr(C)]
+pub struct LaxEvent {
+    pub kind: u32,
+    pub step: f32,
+}
+
+#[repr(C)]
+pub struct LaxLogged {
+    pub written: usize,
+    pub number: u32,
+}
+
+#[repr(C)]
+pub struct LaxReplay {
+    pub missing: u64,
+    pub folds: u64,
+    pub last: u32,
+    pub tween: LaxTween,
+}
+
+#[repr(C)]
+pub struct LaxReplayed {
+    pub done: usize,
+    pub number: u32,
+    pub reached: LaxReplay,
+}
+
 const _: () = {
     use std::mem::size_of;
     assert!(size_of::<LaxEasing>() == 24);
@@ -153,19 +180,11 @@ const _: () = {
     assert!(size_of::<LaxTrackChanged>() == 2076);
     assert!(size_of::<LaxTrackUpdated>() == 2080);
     assert!(size_of::<LaxFilled>() == 24);
+    assert!(size_of::<LaxEvent>() == 8);
+    assert!(size_of::<LaxLogged>() == 16);
+    assert!(size_of::<LaxReplay>() == 96);
+    assert!(size_of::<LaxReplayed>() == 112);
 };
-
-#[repr(C)]
-pub struct LaxEvent {
-    pub kind: u32,
-    pub step: f32,
-}
-
-#[repr(C)]
-pub struct LaxLogged {
-    pub written: usize,
-    pub number: u32,
-}
 
 extern "C" {
     pub fn lax_easing_apply(e: LaxEasing, t: f32) -> LaxFound;
@@ -219,4 +238,18 @@ extern "C" {
 
     pub fn lax_log_head(buffer: *mut u8, buffer_len: usize) -> LaxLogged;
     pub fn lax_log_record(buffer: *mut u8, buffer_len: usize, written: usize, event: LaxEvent) -> LaxLogged;
+    pub fn lax_log_replay(
+        t: LaxTween,
+        log: *const u8,
+        log_len: usize,
+        gaps: *mut u16,
+        gaps_len: usize,
+    ) -> LaxReplayed;
+    pub fn lax_log_replay_on(
+        reached: LaxReplay,
+        records: *const u8,
+        records_len: usize,
+        gaps: *mut u16,
+        gaps_len: usize,
+    ) -> LaxReplayed;
 }

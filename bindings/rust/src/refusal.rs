@@ -45,9 +45,11 @@ pub enum Refusal {
     UnknownVersion,
     /// 17
     WrongLength,
+    /// 18
+    WrongRecord,
 }
 
-const ALL: [(Refusal, &str); 17] = [
+const ALL: [(Refusal, &str); 18] = [
     (Refusal::ProgressIsNan, "the progress is NaN"),
     (Refusal::EasingNotSupplied, "the easing is one of the twelve named kinds without a curve"),
     (Refusal::EasingParameter, "a parameter of the easing is not finite or beyond its limit"),
@@ -65,10 +67,11 @@ const ALL: [(Refusal, &str); 17] = [
     (Refusal::WrongMark, "the log's mark is wrong or cut short"),
     (Refusal::UnknownVersion, "the log's version is unknown or cut short"),
     (Refusal::WrongLength, "the log is longer than its buffer, or its records are not whole"),
+    (Refusal::WrongRecord, "the record that is read has a wrong kind, zero byte or step"),
 ];
 
 impl Refusal {
-    /// The number, from 1 to 17.
+    /// The number, from 1 to 18.
     pub fn number(self) -> u32 {
         self as u32 + 1
     }

@@ -242,7 +242,7 @@ impl Tween {
         Ok(())
     }
 
-    fn words(&self) -> ffi::LaxTween {
+    pub(crate) fn words(&self) -> ffi::LaxTween {
         ffi::LaxTween {
             start: self.start,
             end: self.end,
@@ -259,7 +259,7 @@ impl Tween {
         }
     }
 
-    fn from_words(w: ffi::LaxTween) -> Tween {
+    pub(crate) fn from_words(w: ffi::LaxTween) -> Tween {
         Tween {
             start: w.start,
             end: w.end,

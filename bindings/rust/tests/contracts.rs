@@ -2,7 +2,7 @@
 mod common;
 
 use common::plain;
-use laxombiit::event_log::{write_head, write_record, Event};
+use laxombiit::event_log::{replay, replay_on, write_head, write_record, Event};
 use laxombiit::{Easing, Keyframe, Loop, Refusal, Stopped, Track, Tween, TweenState};
 
 fn tween() -> Tween {
@@ -165,4 +165,20 @@ fn logs() {
     let mut last = *b"PEL\x01\0\xff\xff\x02\0\0\0\0\0........";
     assert_eq!(write_record(&mut last, 13, Event::Pause), Ok(21));
     assert_eq!(last[13..], [0, 0, 2, 0, 0, 0, 0, 0]);
+}
+
+#[test]
+fn replays() {
+    let endless = Tween { duration: 1.0, looping: Loop::Forever, ..tween() };
+    let mut log = *b"PEL\x01\0\0\0\x01\0\0\0\x80\x3f\x01\x02\x01\0\0\0\x80\x3f";
+    let mut gaps = [7; 2];
+    let reached = replay(endless, &log, &mut gaps).unwrap();
+    assert_eq!((gaps, reached.missing, reached.folds), ([0, 512], 512, 2));
+    let begun = replay(endless, &log[..13], &mut gaps).unwrap();
+    assert_eq!((replay_on(begun, &log[13..], &mut gaps), gaps), (Ok(reached), [512, 512]));
+    let cut = replay_on(begun, &log[13..20], &mut gaps).unwrap_err();
+    assert_eq!((cut.refusal, cut.reached), (Refusal::WrongLength, begun));
+    log[13..15].fill(0);
+    let reached = replay(endless, &log, &mut gaps).unwrap();
+    assert_eq!((gaps, reached.missing, reached.folds), ([0, 65_535], 0, 1));
 }

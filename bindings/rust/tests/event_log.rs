@@ -1,39 +1,14 @@
 //! Event logs: written by the library, read back by a few lines that share nothing with it.
+mod log;
+
 use laxombiit::event_log::{write_head, write_record, Event};
 use laxombiit::Refusal;
-
-/// What is behind a log, and stays.
-const FILL: u8 = 0xee;
+use log::{record, written, FILL};
 
 /// The number and the event of each record, where the bytes are a log.
 fn read(log: &[u8]) -> Option<Vec<(u16, Event)>> {
     let records = log.strip_prefix(b"PEL")?.strip_prefix(&1u16.to_le_bytes())?;
-    let mut all = Vec::new();
-    for record in records.chunks(8) {
-        let record: [u8; 8] = record.try_into().ok()?;
-        let word = u64::from_le_bytes(record);
-        let step = f32::from_bits((word >> 32) as u32);
-        let event = match (word >> 16 & 0xffff, word >> 32) {
-            (1, _) if step.is_sign_positive() && step.is_finite() => Event::Step(step),
-            (2, 0) => Event::Pause,
-            (3, 0) => Event::Resume,
-            (4, 0) => Event::Reset,
-            _ => return None,
-        };
-        all.push((word as u16, event));
-    }
-    Some(all)
-}
-
-/// The log of the events, in a buffer that ends right behind it.
-fn written(events: &[Event]) -> Vec<u8> {
-    let mut buffer = vec![FILL; 5 + 8 * events.len()];
-    let mut length = write_head(&mut buffer).unwrap();
-    for &event in events {
-        length = write_record(&mut buffer, length, event).unwrap();
-    }
-    assert_eq!(length, buffer.len());
-    buffer
+    records.chunks(8).map(record).collect()
 }
 
 fn refused(buffer: &[u8], length: usize, event: Event) -> Refusal {
