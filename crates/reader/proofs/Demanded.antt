@@ -1,7 +1,7 @@
 -- Demand 3 of a replay: its tween and its folds are those of the history that its records tell of. Assumes nothing.
 use Prim.Native.Nat.{ℕ, _+_, _/_, _%_}
-use mathlib.Core.Path.{_≡_, refl, sym, ap, _∙_, subst}
-use mathlib.Core.Bool.{Bool, true, false, false≢true}
+use mathlib.Core.Path.{_≡_, refl, sym, ap, _∙_}
+use mathlib.Core.Bool.{true, false, false≢true}
 use mathlib.Core.List.{List, [], _∷_, map}
 use mathlib.Core.Logic.{_⊎_, inl, inr}
 use native.Mathlib.Omega.{arith}
@@ -20,12 +20,11 @@ use Rattle.tween.specs.declared.answers.Updated.the-variants as updated
 use Rattle.tween.specs.Limits.{withinOf}
 use Rattle.tween.specs.Calls.{pauseOf, resumeOf}
 use Rattle.tween.specs.Update.{updateOf}
-use Rattle.history.specs.History.{Act, step, pause, resume, Past, updatedBy, changedTo, after, afterAll, fresh, scaled, Holds}
+use Rattle.history.specs.History.{Act, step, pause, resume, Past, updatedBy, changedTo, after, afterAll, fresh}
 use Rattle.history.proofs.Demand.{demand-3}
 use Rattle.event_log.specs.declared.event.Event.{Event}
 use Rattle.event_log.specs.Writing.{numberAt}
 use Rattle.event_log.specs.Format.{mark, version, startsWith}
-use Rattle.reader.specs.declared.gaps.Last.the-variants.{Number}
 use Rattle.reader.specs.declared.hear.Replay.{Replay}
 use Rattle.reader.specs.declared.hear.Played.{Played}
 use Rattle.reader.specs.declared.hear.Played.the-variants.{Done, Refused}
@@ -35,6 +34,7 @@ use Rattle.reader.specs.Records.{recordsOf, isWrong, eventIn}
 use Rattle.reader.specs.Hearing.{capped, gapOf, isRepeat, byUpdate, byChange, playedOf, further, heardOf}
 use Rattle.reader.specs.Reading.{Reading, stopped, followed, readingOf, readOnOf, beginOf, replayOf}
 use Rattle.reader.specs.Promises.{eventOf, ReplayDemand3}
+use Rattle.reader.proofs.Heard.{isDone}
 
 -- what a call came to
 tweenIn : Tween → Played → Tween
@@ -45,22 +45,18 @@ foldsIn : Played → ℕ
 foldsIn (Done u k) = k
 foldsIn (Refused r) = 0
 
-isDone : Played → Bool
-isDone (Done u k) = true
-isDone (Refused r) = false
-
 -- a history after an act, and the tween after the call that tells of it
 module _ (h : Past) (u : Tween) (k : ℕ) where
   abbrev Agrees : Past → Type 0
   Agrees p = (p .tween ≡ u) × (p .made ≡ h .made + k)
 
   updated-agrees : (n : ℕ) (a : Updated) → byUpdate a ≡ Done u k → Agrees (updatedBy h n a)
-  unfolding tweenIn foldsIn isDone
+  unfolding tweenIn foldsIn
   updated-agrees n (updated.Ran v m r) e = (ap (tweenIn u) e, ap (λ (p : Played). h .made + foldsIn p) e)
   updated-agrees n (updated.Refused v r) e = absurd (false≢true (ap isDone e))
 
   changed-agrees : (a : Changed) → byChange a ≡ Done u k → Agrees (changedTo h a)
-  unfolding tweenIn foldsIn isDone
+  unfolding tweenIn foldsIn
   changed-agrees (changed.Done v) e = (ap (tweenIn u) e, omega (arith, ap foldsIn e))
   changed-agrees (changed.Refused v r) e = absurd (false≢true (ap isDone e))
 

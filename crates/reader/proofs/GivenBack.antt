@@ -1,5 +1,5 @@
 -- A log of a run's accepted calls gives back the tween that the run left. Assumes nothing.
-use Prim.Native.Nat.{ℕ, suc, _+_, _*_, _/_, _%_, _<_, _≤_}
+use Prim.Native.Nat.{ℕ, _+_, _/_, _<_, _≤_}
 use mathlib.Core.Path.{_≡_, refl, sym, ap, _∙_}
 use mathlib.Core.Bool.{Bool, true, false, false≢true}
 use mathlib.Core.List.{List, [], _∷_}
@@ -23,25 +23,21 @@ use Rattle.reader.specs.declared.hear.Replay.{Replay}
 use Rattle.reader.specs.declared.hear.Played.{Played}
 use Rattle.reader.specs.declared.hear.Played.the-variants.{Done, Refused}
 use Rattle.reader.specs.declared.hear.Heard.the-variants.{Goes}
-use Rattle.reader.specs.Records.{split, recordsOf}
+use Rattle.reader.specs.Records.{split}
 use Rattle.reader.specs.Hearing.{capped, gapOf, byUpdate, playedOf, further, heardOf}
 use Rattle.reader.specs.Reading.{readingOf, beginOf, replayOf}
 use Rattle.reader.specs.Promises.{Ran, ranOn, ranOf, Forward, AllForward, GivesBack}
 use Rattle.reader.proofs.Counting.{gap-next}
+use Rattle.reader.proofs.Heard.{isDone}
 use Rattle.reader.proofs.Recorded.{below-top, hears-recorded}
 use Rattle.reader.proofs.Refusals.{reads, reads-log}
 
-isDone : Played → Bool
-isDone (Done u k) = true
-isDone (Refused r) = false
-
 -- an update that is too long is not accepted
 long-refused : (t : Tween) (x : Float) → lt topF x ≡ true → isDone (byUpdate (updateOf t x)) ≡ false
-unfolding updateOf isDone
+unfolding updateOf
 long-refused t x h = by-test (λ a. isDone (byUpdate a) ≡ false) (withinOf t) _ _ (λ _. rw h refl) (λ _. refl)
 
 accepted-by : (t : Tween) (x : Float) (u : Tween) (k : ℕ) (b : Bool) → byUpdate (updateOf t x) ≡ Done u k → lt topF x ≡ b → b ≡ false
-unfolding isDone
 accepted-by t x u k true h e = absurd (false≢true (sym (long-refused t x e) ∙ ap isDone h))
 accepted-by t x u k false h e = refl
 
@@ -62,16 +58,13 @@ Back run n s =
     × (c .replay .missing ≡ s .missing)
     × (c .replay .folds ≡ capped (s .folds + run .folds))
 
-abbrev top : ℕ
-top = 18446744073709551615
-
 -- how far the replay has come behind an accepted call, with no gap before it
 abbrev then : Replay → ℕ → Tween → ℕ → Replay
 then s n u k = record { tween = u; last = Number n; missing = capped (s .missing + 0); folds = capped (s .folds + k) }
 
-back-on : (e : Event) (es : List Event) (n : ℕ) (s : Replay) (p : Played) → playedOf (s .tween) e ≡ p → n < 65536 → Forward e → gapOf (s .last) n ≡ 0 → s .missing ≤ top
-    → ((m : ℕ) (v : Replay) → m < 65536 → gapOf (v .last) m ≡ 0 → v .missing ≤ top → v .folds ≤ top → Back (ranOf es (v .tween)) m v)
-    → s .folds ≤ top → Back (ranOn p e (s .tween) (ranOf es)) n s
+back-on : (e : Event) (es : List Event) (n : ℕ) (s : Replay) (p : Played) → playedOf (s .tween) e ≡ p → n < 65536 → Forward e → gapOf (s .last) n ≡ 0 → s .missing ≤ 18446744073709551615
+    → ((m : ℕ) (v : Replay) → m < 65536 → gapOf (v .last) m ≡ 0 → v .missing ≤ 18446744073709551615 → v .folds ≤ 18446744073709551615 → Back (ranOf es (v .tween)) m v)
+    → s .folds ≤ 18446744073709551615 → Back (ranOn p e (s .tween) (ranOf es)) n s
 unfolding recordsFrom split readingOf
 back-on e es n s (Refused r) P N F z a rest b = rest n s N z a b
 back-on e es n s (Done u k) P N F z a rest b =
@@ -85,7 +78,7 @@ back-on e es n s (Done u k) P N F z a rest b =
     let i = rest (next n) v (mod-lt (n + 1) (omega arith)) (gap-next n N) (omega arith) (omega arith) in
     rw heard (ap (λ (l : List ℕ). 0 ∷ l) (i .0), i .1, i .2, i .3 ∙ omega arith, i .4 ∙ omega arith)
 
-back : (es : List Event) (n : ℕ) (s : Replay) → AllForward es → n < 65536 → gapOf (s .last) n ≡ 0 → s .missing ≤ top → s .folds ≤ top → Back (ranOf es (s .tween)) n s
+back : (es : List Event) (n : ℕ) (s : Replay) → AllForward es → n < 65536 → gapOf (s .last) n ≡ 0 → s .missing ≤ 18446744073709551615 → s .folds ≤ 18446744073709551615 → Back (ranOf es (s .tween)) n s
 unfolding ranOf recordsFrom split readingOf
 back [] n s F N z a b = (refl, refl, refl, refl, omega arith)
 back (e ∷ es) n s (F, Fs) N z a b = back-on e es n s (playedOf (s .tween) e) refl N F z a (λ m v. back es m v Fs) b

@@ -1,7 +1,7 @@
 -- What a record comes to, by what is seen of it. Assumes nothing.
 use Prim.Native.Nat.{ℕ}
-use mathlib.Core.Path.{_≡_, refl, sym}
-use mathlib.Core.Bool.{true, false}
+use mathlib.Core.Path.{_≡_, sym}
+use mathlib.Core.Bool.{Bool, true, false}
 use mathlib.Core.List.{List}
 use borrow.Author.Tests.{eq-eqb, ne-eqb}
 use Rattle.refusal.specs.declared.Refusal.the-variants.{WrongRecord}
@@ -9,6 +9,7 @@ use Rattle.event_log.specs.declared.event.Event.{Event}
 use Rattle.event_log.specs.Writing.{numberAt}
 use Rattle.reader.specs.declared.hear.Replay.{Replay}
 use Rattle.reader.specs.declared.hear.Played.{Played}
+use Rattle.reader.specs.declared.hear.Played.the-variants.{Done, Refused}
 use Rattle.reader.specs.declared.hear.Heard.the-variants.{Goes, Stops}
 use Rattle.reader.specs.Records.{isWrong, eventIn}
 use Rattle.reader.specs.Hearing.{gapOf, playedOf, further, heardOf}
@@ -26,3 +27,8 @@ module _ (s : Replay) (r : List ℕ) where
     pub hears-played : (g ≡ 65535 → ⊥) → (e : Event) (p : Played) → e ≡ eventIn r → p ≡ playedOf (s .tween) e → heardOf s r ≡ further p s n g
     unfolding heardOf
     hears-played h e p E P = rw (right, sym N, sym G, ne-eqb g 65535 h, sym E, sym P)
+
+-- whether a call was accepted
+abbrev pub isDone : Played → Bool
+isDone (Done u k) = true
+isDone (Refused r) = false

@@ -12,3 +12,4 @@ pub mod Followed
 pub mod Dropped
 pub mod Without
 pub mod Demanded
+pub mod Examples

@@ -6,12 +6,11 @@ use mathlib.Core.List.{List, [], _∷_, _++_}
 use native.Mathlib.Nat.{zero-add}
 use native.Mathlib.Omega.{arith}
 use lib.Dec.{eqb}
-use lib.ListN.{length, take, drop, length-append, length-drop}
+use lib.ListN.{length, drop, length-append, length-drop}
 use lib.Seq.{take-append-le, drop-append-le}
 use Rattle.refusal.specs.declared.Refusal.{Refusal}
 use Rattle.refusal.specs.declared.Refusal.the-variants.{RecordBreaksLimit, WrongMark, UnknownVersion}
 use Rattle.refusal.specs.Refusing.{unless}
-use Rattle.tween.specs.declared.record.Tween.{Tween}
 use Rattle.tween.specs.Limits.{withinOf}
 use Rattle.steps.specs.declared.run.Outcome.{Outcome}
 use Rattle.steps.specs.declared.run.Outcome.the-variants.{Finished, Refused}

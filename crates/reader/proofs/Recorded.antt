@@ -1,28 +1,25 @@
 -- What is read of a record that the writer wrote. Assumes nothing.
 use Prim.Native.Nat.{ℕ, _+_, _*_, _/_, _%_, _<_}
 use mathlib.Core.Path.{_≡_, refl, sym, ap, _∙_}
-use mathlib.Core.Bool.{Bool, true, false, not, cond, false≢true}
-use native.Mathlib.Nat.{mod-add-div, mod-eq-of-lt}
+use mathlib.Core.Bool.{Bool, true, false, false≢true}
 use native.Mathlib.Omega.{arith}
-use borrow.Author.Tests.{not-true}
 use lib.Dec.{T}
-use lib.Ieee.{Float, nan, inf, fin, binary32, fits, lt, isNan, ofBits, toBits}
+use lib.Ieee.{Float, nan, inf, fin, binary32, fits, lt, ofBits, toBits}
 use lib.Ieee.Bits.{ofBits-toBits, toBits-lt}
 use Rattle.math.specs.Rounded.{zeroF, topF}
 use Rattle.math.specs.Range.{maxZeroOf}
 use Rattle.math.proofs.Choice.{by-test}
 use Rattle.tween.specs.declared.record.Tween.{Tween}
-use Rattle.tween.specs.Limits.{withinOf}
 use Rattle.tween.specs.Update.{updateOf}
 use Rattle.event_log.specs.declared.event.Event.{Event}
 use Rattle.event_log.specs.declared.event.Event.the-variants.{Step, Pause, Resume, Reset}
-use Rattle.event_log.specs.Format.{bitsOf, stepOf, recordOf}
-use Rattle.event_log.specs.Writing.{isLong, isBackward, numberAt}
+use Rattle.event_log.specs.Format.{bitsOf, recordOf}
+use Rattle.event_log.specs.Writing.{numberAt}
 use Rattle.event_log.proofs.Logs.{number-kept}
 use Rattle.reader.specs.declared.hear.Replay.{Replay}
-use Rattle.reader.specs.Records.{bitsIn, stepIn, isStep, isWrong, eventIn}
+use Rattle.reader.specs.Records.{stepIn, isStep, isWrong, eventIn}
 use Rattle.reader.specs.Hearing.{gapOf, byUpdate, playedOf, further, heardOf}
-use Rattle.reader.specs.Promises.{Forward, Logged}
+use Rattle.reader.specs.Promises.{Logged}
 use Rattle.reader.proofs.Heard.{hears-played}
 
 -- four bytes, low byte first, read back

@@ -1,13 +1,11 @@
 -- A log by our writer without some of its records: the reader counts exactly those. Assumes nothing.
 use Prim.Native.Nat.{ℕ, zero, suc, _+_, _*_, _/_, _%_, _<_, _≤_}
 use mathlib.Core.Path.{_≡_, refl, sym, ap, _∙_}
-use mathlib.Core.Bool.{Bool}
 use mathlib.Core.List.{List, [], _∷_, _++_, append-assoc}
-use native.Mathlib.Nat.{zero-add}
 use native.Mathlib.Omega.{arith}
 use borrow.Author.Tests.{le-ltb}
 use lib.Dec.{leb, eqb}
-use lib.ListN.{length, take, drop, length-append, length-drop, take-append-drop}
+use lib.ListN.{length, take, drop, take-append-drop}
 use lib.Seq.{length-take-le, take-at, drop-at, take-append-add, drop-append-add}
 use Rattle.math.proofs.Choice.{by-test}
 use Rattle.refusal.specs.declared.Refusal.{Refusal}
@@ -18,7 +16,7 @@ use Rattle.event_log.specs.declared.event.Event.{Event}
 use Rattle.event_log.specs.Format.{head, recordsFrom, logOf}
 use Rattle.event_log.proofs.Logs.{length-records, records-append}
 use Rattle.reader.specs.Records.{split, recordsOf}
-use Rattle.reader.specs.Reading.{Reading, stopped, readingOf, readOnOf, beginOf, replayOf}
+use Rattle.reader.specs.Reading.{Reading, stopped, readOnOf, beginOf, replayOf}
 use Rattle.reader.specs.Promises.{AllLogged, without, CountsDropped}
 use Rattle.reader.proofs.Parts.{records-both}
 use Rattle.reader.proofs.Dropped.{Missing, counts-between}

@@ -1,7 +1,7 @@
 -- Request 3, "Read it back and count the gaps": what holds of every replay. Each sentence is a type; its proof has its name in small letters.
-use Prim.Native.Nat.{ℕ, _+_, _-_, _*_, _/_, _%_, _<_, _≤_}
+use Prim.Native.Nat.{ℕ, _+_, _*_, _/_, _%_, _<_, _≤_}
 use mathlib.Core.Path.{_≡_}
-use mathlib.Core.Bool.{Bool, true, false, cond}
+use mathlib.Core.Bool.{true, false, cond}
 use mathlib.Core.List.{List, [], _∷_, _++_, map}
 use lib.Dec.{T, ltb, eqb}
 use lib.ListN.{length, getD, take, drop, replicate}
@@ -22,7 +22,7 @@ use Rattle.reader.specs.declared.hear.Played.{Played}
 use Rattle.reader.specs.declared.hear.Played.the-variants.{Done, Refused}
 use Rattle.reader.specs.Records.{recordsOf, eventIn}
 use Rattle.reader.specs.Hearing.{capped, playedOf}
-use Rattle.reader.specs.Reading.{Reading, readOnOf, replayOf, joined}
+use Rattle.reader.specs.Reading.{readOnOf, replayOf, joined}
 
 -- what "a run of updates, pauses, resumes and resets alone" leaves: the tween, "its accepted calls, in order", and the folds of its updates
 pub record Ran : Type 0 where

@@ -1,6 +1,5 @@
 -- Request 3, "Read it back and count the gaps": a whole log, and one that is read in parts.
 use Prim.Native.Nat.{ℕ, _/_, _%_}
-use mathlib.Core.Bool.{Bool}
 use mathlib.Core.List.{List, [], _∷_, _++_}
 use lib.Dec.{leb, eqb}
 use lib.ListN.{length, drop}
