@@ -34,7 +34,9 @@ pub fn print_calls(rows: &[Row]) {
     }
     let bars: Vec<bool> = rows.iter().filter_map(Row::is_met).collect();
     let met = bars.iter().filter(|met| **met).count();
-    println!("\nTimes are of one call; in a batch of one sample, in a run of one step.");
+    println!(
+        "\nTimes are of one call; in a batch of one sample, in a run of one step, in a replay of one record."
+    );
     println!("Bars met: {met} of {}.\n", bars.len());
 }
 

@@ -61,3 +61,42 @@ pub fn log_record(buffer: &mut [u8], written: usize, event: LaxEvent) -> Option<
     record[4..].copy_from_slice(&(step + 0.0).to_le_bytes());
     Some(written + 8)
 }
+
+/// The same checks again; what is missing in all, or nothing where the log is refused.
+#[inline(never)]
+pub fn log_replay(tween: &mut Tween<f32>, log: &[u8], gaps: &mut [u16]) -> Option<u64> {
+    let records = log.strip_prefix(b"PEL\x01\0")?;
+    if records.len() % 8 != 0 || gaps.len() < records.len() / 8 {
+        return None;
+    }
+    let (mut missing, mut last) = (0u64, None);
+    for (record, place) in records.chunks_exact(8).zip(gaps) {
+        let (number, kind, step) = log_entry(record)?;
+        let gap = last.map_or(0, |last| number.wrapping_sub(last).wrapping_sub(1));
+        *place = gap;
+        if gap == u16::MAX {
+            continue;
+        }
+        (missing, last) = (missing.saturating_add(gap.into()), Some(number));
+        match kind {
+            1 => {
+                update(tween, step);
+            }
+            2 => tween.pause(),
+            3 => tween.resume(),
+            _ => tween.reset(),
+        }
+    }
+    Some(missing)
+}
+
+fn log_entry(record: &[u8]) -> Option<(u16, u8, f32)> {
+    let [low, high, kind, zero, bits @ ..] = *record.first_chunk::<8>()?;
+    let step = f32::from_le_bytes(bits);
+    let fits = match kind {
+        1 => step.is_finite() && step.is_sign_positive(),
+        2..=4 => step.to_bits() == 0,
+        _ => false,
+    };
+    (fits && zero == 0).then_some((u16::from_le_bytes([low, high]), kind, step))
+}

@@ -26,6 +26,12 @@ impl Answer for u8 {
     }
 }
 
+impl Answer for u16 {
+    fn bits(self) -> u64 {
+        self.into()
+    }
+}
+
 impl Answer for Option<f32> {
     fn bits(self) -> u64 {
         self.map_or(u64::MAX, f32::bits)

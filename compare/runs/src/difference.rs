@@ -75,12 +75,15 @@ pub fn same_list(
     Ok(())
 }
 
-/// Bytes of a lent buffer, to the bit.
-pub fn same_bytes(what: &str, ours: &[u8], expected: &[u8]) -> Result<(), Difference> {
+/// Every place of a lent list, to the bit.
+pub fn same_places<T>(what: &str, ours: &[T], expected: &[T]) -> Result<(), Difference>
+where
+    T: Copy + PartialEq + Into<u32>,
+{
     if ours == expected {
         return Ok(());
     }
-    let words = |bytes: &[u8]| bytes.iter().map(|byte| u32::from(*byte)).collect::<Vec<u32>>();
+    let words = |list: &[T]| list.iter().map(|place| (*place).into()).collect::<Vec<u32>>();
     same_count(format!("{what}: length"), ours.len(), expected.len())?;
     same_list(what, Whole, &words(ours), &words(expected), 0)
 }

@@ -1,6 +1,7 @@
 //! The edges, one by one: each word of some plain records at each edge, in every call; each argument at
 //! each edge. The same in every run.
 mod log;
+mod replay;
 
 use crate::input::Input;
 use crate::make::{EDGES, FRAME_COUNTS};
@@ -10,6 +11,7 @@ use crate::runner::{Runner, Tried};
 use crate::subjects::*;
 use crate::words::*;
 use oracle::Easing;
+use std::ops::Range;
 
 /// What the rules say of counts, kinds, modes and states, and one beside each.
 const COUNTS: [u32; 24] = [
@@ -20,13 +22,18 @@ const COUNTS: [u32; 24] = [
 const TWEENS: u64 = 5 * 4;
 const TRACKS: u64 = 5 * FRAME_COUNTS.len() as u64;
 const RECORDS: u64 = 1 + TWEENS + TRACKS;
-pub const PARTS: u64 = RECORDS + log::PARTS;
+const LOGS: u64 = RECORDS + log::PARTS;
+pub const PARTS: u64 = LOGS + replay::PARTS;
+
+/// The parts that are replays.
+pub const REPLAYS: Range<u64> = LOGS..PARTS;
 
 pub fn part(part: u64, runner: &mut Runner) -> Tried<()> {
     match part {
         0 => easings(runner),
         1..=TWEENS => tweens(&plain_tween((part as u32 - 1) / 4, (part as u32 - 1) % 4), runner),
-        RECORDS.. => log::part(part - RECORDS, runner),
+        RECORDS..LOGS => log::part(part - RECORDS, runner),
+        LOGS.. => replay::part(part - LOGS, runner),
         _ => {
             let place = (part - 1 - TWEENS) as u32;
             tracks(&plain_track(place / 5, FRAME_COUNTS[place as usize % 5]), runner)

@@ -54,6 +54,20 @@ unsafe extern "C" {
 
     fn lax_log_head(buffer: *mut u8, buffer_len: usize) -> LaxLogged;
     fn lax_log_record(buffer: *mut u8, buffer_len: usize, written: usize, event: LaxEvent) -> LaxLogged;
+    fn lax_log_replay(
+        t: LaxTween,
+        log: *const u8,
+        log_len: usize,
+        gaps: *mut u16,
+        gaps_len: usize,
+    ) -> LaxReplayed;
+    fn lax_log_replay_on(
+        reached: LaxReplay,
+        records: *const u8,
+        records_len: usize,
+        gaps: *mut u16,
+        gaps_len: usize,
+    ) -> LaxReplayed;
 }
 
 pub fn tween_run(t: LaxTween, steps: &[f32], values: &mut [f32], folds: &mut [u32]) -> LaxRun {
@@ -80,4 +94,12 @@ pub fn log_head(buffer: &mut [u8]) -> LaxLogged {
 
 pub fn log_record(buffer: &mut [u8], written: usize, event: LaxEvent) -> LaxLogged {
     unsafe { lax_log_record(buffer.as_mut_ptr(), buffer.len(), written, event) }
+}
+
+pub fn log_replay(t: LaxTween, log: &[u8], gaps: &mut [u16]) -> LaxReplayed {
+    unsafe { lax_log_replay(t, log.as_ptr(), log.len(), gaps.as_mut_ptr(), gaps.len()) }
+}
+
+pub fn log_replay_on(reached: LaxReplay, records: &[u8], gaps: &mut [u16]) -> LaxReplayed {
+    unsafe { lax_log_replay_on(reached, records.as_ptr(), records.len(), gaps.as_mut_ptr(), gaps.len()) }
 }

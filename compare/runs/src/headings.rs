@@ -1,7 +1,8 @@
 //! Under which headings of the tally an input is counted.
 use crate::input::Input;
+use crate::log::RECORD;
 use crate::rules::STEP;
-use crate::subjects::{EasingCall, LogCall, TrackCall, TweenCall};
+use crate::subjects::{EasingCall, LogCall, ReplayCall, TrackCall, TweenCall, records_in};
 use crate::tally::{Heading, Section};
 
 pub fn headings(made: &'static str, input: &Input) -> Vec<Heading> {
@@ -13,6 +14,12 @@ pub fn headings(made: &'static str, input: &Input) -> Vec<Heading> {
     match (input, &input.lengths()[..]) {
         (Input::Log(LogCall::Record { buffer, written, .. }), _) => {
             all.push((Section::Written, written_length(*written, buffer.len())));
+        }
+        (Input::Replay(ReplayCall::Log { log, gaps, .. }), _) => {
+            all.push((Section::List, output(records_in(log.len()), *gaps, *gaps)));
+        }
+        (Input::Replay(ReplayCall::On { records, gaps, .. }), _) => {
+            all.push((Section::List, output(records.len() / RECORD, *gaps, *gaps)));
         }
         (Input::Tween(..) | Input::Track(..), [(_, given), rest @ ..]) => {
             let least = rest.iter().map(|(_, length)| *length).min().unwrap_or(0);

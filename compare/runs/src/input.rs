@@ -1,5 +1,6 @@
 //! One call with all that it is given: what a run tries, shows and makes smaller.
 mod log;
+mod replay;
 
 use crate::difference::{Difference, shown};
 use crate::rules::frames;
@@ -14,6 +15,7 @@ pub enum Input {
     NewTrack,
     Track(Box<LaxTrack>, TrackCall),
     Log(LogCall),
+    Replay(ReplayCall),
 }
 
 /// The record after a call.
@@ -32,6 +34,7 @@ impl Input {
             Input::NewTrack => NEW_TRACK,
             Input::Track(_, call) => call.name(),
             Input::Log(call) => call.name(),
+            Input::Replay(call) => call.name(),
         }
     }
 
@@ -46,6 +49,7 @@ impl Input {
                 Ok((number, after.map_or(After::None, After::Track)))
             }
             Input::Log(call) => call.check().map(|number| (number, After::None)),
+            Input::Replay(call) => call.check().map(|number| (number, After::None)),
         }
     }
 
@@ -60,6 +64,7 @@ impl Input {
                 [record("track", t.as_mut()), track_words(call)].into_iter().flatten().collect()
             }
             Input::Log(call) => log::words(call),
+            Input::Replay(call) => replay::words(call),
         }
     }
 
@@ -73,6 +78,7 @@ impl Input {
                 vec![("times", times.len()), ("out", *out)]
             }
             Input::Log(call) => log::lengths(call),
+            Input::Replay(call) => replay::lengths(call),
             _ => vec![],
         }
     }
@@ -105,6 +111,7 @@ impl Input {
                 }
             }
             Input::Log(call) => all.extend(log::shorter(call).into_iter().map(Input::Log)),
+            Input::Replay(call) => all.extend(replay::shorter(call).into_iter().map(Input::Replay)),
             _ => {}
         }
         all

@@ -29,12 +29,18 @@ pub fn read(bytes: &[u8]) -> Option<Vec<Entry>> {
     records.chunks(RECORD).map(read_record).collect()
 }
 
+/// Nothing where a replay refuses the record by 18.
 pub fn read_record(bytes: &[u8]) -> Option<Entry> {
     let [first, second, kind, zero, step @ ..] = bytes else { return None };
     let (number, step) = (whole(&[*first, *second]), whole(step));
-    let fits = step == 0 || *kind == 1;
     let event = LaxEvent { kind: u32::from(*kind), step: f32::from_bits(step) };
+    let fits = if *kind == 1 { is_step(event.step) } else { step == 0 };
     ((1..=4).contains(kind) && *zero == 0 && fits).then_some(Entry { number, event })
+}
+
+/// As a writer leaves it.
+fn is_step(x: f32) -> bool {
+    !x.is_nan() && !x.is_infinite() && !x.is_sign_negative()
 }
 
 /// Low byte first.

@@ -12,6 +12,7 @@ mod make;
 mod meaning;
 mod power;
 mod random;
+mod replay;
 mod rules;
 mod runner;
 mod search;
@@ -21,11 +22,12 @@ mod tally;
 mod words;
 
 use std::env;
+use std::ops::Range;
 use std::process::ExitCode;
 use std::time::{SystemTime, UNIX_EPOCH};
 
-const USAGE: &str = "compare short
-compare random [--seed S] [--count CASES]
+const USAGE: &str = "compare short [--only replays]
+compare random [--seed S] [--count CASES] [--only replays]
 compare exhaustive [--kind KIND]
 compare power [--only PLACE]
 compare list FILE";
@@ -34,13 +36,17 @@ compare list FILE";
 const SHORT: u64 = 400_000;
 const RANDOM: u64 = 4_000_000;
 
+/// Cases of records to one of replays.
+const PER_REPLAY: u64 = 20;
+
 fn main() -> ExitCode {
     let arguments: Vec<String> = env::args().skip(1).collect();
+    let only = text_option(&arguments, "--only");
     let agreed = match arguments.first().map(String::as_str) {
-        Some("short") => Some(random_run(1, SHORT)),
+        Some("short") => cases(SHORT, None, only).map(|cases| random_run(1, cases)),
         Some("random") => {
             let seed = option(&arguments, "--seed").unwrap_or_else(seed_of_clock);
-            Some(random_run(seed, option(&arguments, "--count").unwrap_or(RANDOM)))
+            cases(RANDOM, option(&arguments, "--count"), only).map(|cases| random_run(seed, cases))
         }
         Some("exhaustive") => Some(exhaustive::run(text_option(&arguments, "--kind"))),
         Some("power") => Some(power::run(option(&arguments, "--only"))),
@@ -62,16 +68,36 @@ fn compared() -> String {
     format!("archive {}, sources {}", env!("LAXOMBIIT_HASH"), oracle::HASH)
 }
 
-fn random_run(seed: u64, cases: u64) -> bool {
-    println!("{}", compared());
-    println!("seed {seed}, {cases} random cases behind the edges");
-    let parts = edges::PARTS + cases.div_ceil(random::CASES);
-    runner::run(parts, |part, runner| {
-        if part < edges::PARTS {
-            edges::part(part, runner)
-        } else {
-            random::part(seed, part - edges::PARTS, runner)
+/// What a run tries: edges, random cases of records, and those of replays.
+struct Cases {
+    edges: Range<u64>,
+    records: u64,
+    replays: u64,
+}
+
+/// As usual, or as many as are asked for. Nothing where the word selects nothing.
+fn cases(usual: u64, asked: Option<u64>, only: Option<&str>) -> Option<Cases> {
+    let records = asked.unwrap_or(usual);
+    match only {
+        None => Some(Cases { edges: 0..edges::PARTS, records, replays: records / PER_REPLAY }),
+        Some("replays") => {
+            let replays = asked.unwrap_or(usual / PER_REPLAY);
+            Some(Cases { edges: edges::REPLAYS, records: 0, replays })
         }
+        Some(_) => None,
+    }
+}
+
+fn random_run(seed: u64, cases: Cases) -> bool {
+    println!("{}", compared());
+    let Cases { edges, records, replays } = cases;
+    println!("seed {seed}, {records} random cases and {replays} of replays behind the edges");
+    let behind_edges = edges.end - edges.start;
+    let behind_records = behind_edges + records.div_ceil(random::CASES);
+    runner::run(behind_records + replays.div_ceil(random::CASES), |part, runner| match part {
+        _ if part < behind_edges => edges::part(edges.start + part, runner),
+        _ if part < behind_records => random::part(seed, part - behind_edges, runner),
+        _ => random::replays_part(seed, part - behind_records, runner),
     })
 }
 

@@ -1,4 +1,4 @@
-//! What the words mean in the Rust, and the Rust's records as words. Only for words that the rules accept.
+//! What the words mean in the Rust, and the Rust's records as words. Only for words that are known.
 use crate::rules::*;
 use crate::words::*;
 use oracle::{Easing, Keyframe, KeyframeTrack, Loop, Tween, TweenState};
@@ -10,8 +10,11 @@ pub fn easing(w: &LaxEasing) -> Easing {
     match named {
         Easing::CubicBezier(..) => Easing::CubicBezier(w.a, w.b, w.c, w.d),
         Easing::Steps(_) => Easing::Steps(w.count),
+        Easing::RoughEase { .. } => Easing::RoughEase { strength: w.a, points: w.count },
         Easing::SlowMo { .. } => Easing::SlowMo { linear_ratio: w.a, power: w.b },
+        Easing::Wiggle { .. } => Easing::Wiggle { wiggles: w.count },
         Easing::CustomBounce { .. } => Easing::CustomBounce { strength: w.a },
+        Easing::ExpoScale { .. } => Easing::ExpoScale { start: w.a, end: w.b },
         bare => bare.clone(),
     }
 }

@@ -1,6 +1,8 @@
 //! Random cases: a call of an easing, or a history of calls on one record; behind every fourth, calls of a log.
+//! The replays are cases of their own.
 use crate::input::{After, Input};
-use crate::make::Maker;
+use crate::log::HEAD;
+use crate::make::{Maker, WRITTEN, written};
 use crate::runner::{Runner, Tried};
 use crate::subjects::*;
 use crate::words::{LaxTrack, LaxTween, Words};
@@ -19,6 +21,14 @@ pub fn part(seed: u64, part: u64, runner: &mut Runner) -> Tried<()> {
         if maker.once_in(4) {
             logs(&mut maker, runner)?;
         }
+    }
+    Ok(())
+}
+
+/// Another seed than that of the other cases, so that the tweens are others.
+pub fn replays_part(seed: u64, part: u64, runner: &mut Runner) -> Tried<()> {
+    for case in part * CASES..(part + 1) * CASES {
+        replays(&mut Maker::new(!seed, case), runner)?;
     }
     Ok(())
 }
@@ -124,5 +134,27 @@ fn logs(maker: &mut Maker, runner: &mut Runner) -> Tried<()> {
         let (buffer, written, event) = (log.buffer.clone(), log.written, maker.event());
         runner.check(made, Input::Log(LogCall::Record { buffer, written, event }))?;
     }
+    Ok(())
+}
+
+/// A log as it was written, and eight that are damaged.
+fn replays(maker: &mut Maker, runner: &mut Runner) -> Tried<()> {
+    let tween = maker.logged_tween();
+    let events = maker.calls(&tween);
+    let log = written(&events);
+    let gaps = maker.gaps(records_in(log.len()));
+    runner.check(WRITTEN, Input::Replay(ReplayCall::Run { tween, events, rounds: 1 }))?;
+    runner.check(WRITTEN, Input::Replay(ReplayCall::Log { tween, log: log.clone(), gaps }))?;
+    for _ in 0..5 {
+        let (made, log) = maker.damaged(&log, 0);
+        let (tween, gaps) = (maker.replayed_tween(&tween), maker.gaps(records_in(log.len())));
+        runner.check(made, Input::Replay(ReplayCall::Log { tween, log, gaps }))?;
+    }
+    for _ in 0..2 {
+        let (made, log) = maker.damaged(&log, HEAD);
+        runner.check(made, Input::Replay(maker.replay_on(&tween, &log)))?;
+    }
+    let (made, log) = maker.damaged(&log, 0);
+    runner.check(made, Input::Replay(ReplayCall::Parts { tween, log, parts: maker.parts() }))?;
     Ok(())
 }

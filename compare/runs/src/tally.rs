@@ -14,7 +14,7 @@ pub enum Section {
 
 pub type Heading = (Section, &'static str);
 
-const NUMBERS: [u32; 19] = [0, 1, 2, 3, 4, 5, 6, 7, 8, 9, 10, 11, 12, 13, 14, 15, 16, 17, 100];
+const NUMBERS: [u32; 20] = [0, 1, 2, 3, 4, 5, 6, 7, 8, 9, 10, 11, 12, 13, 14, 15, 16, 17, 18, 100];
 
 fn column(number: u32) -> usize {
     NUMBERS.iter().position(|own| *own == number).expect("a number of the rules")

@@ -209,6 +209,23 @@ pub struct LaxLogged {
 
 #[repr(C)]
 #[derive(Clone, Copy)]
+pub struct LaxReplay {
+    pub missing: u64,
+    pub folds: u64,
+    pub last: u32,
+    pub tween: LaxTween,
+}
+
+#[repr(C)]
+#[derive(Clone, Copy)]
+pub struct LaxReplayed {
+    pub done: usize,
+    pub number: u32,
+    pub reached: LaxReplay,
+}
+
+#[repr(C)]
+#[derive(Clone, Copy)]
 pub struct LaxRun {
     pub done: usize,
     pub unsettled: usize,
@@ -240,4 +257,6 @@ const _: () = {
     assert!(size_of::<LaxFilled>() == 24);
     assert!(size_of::<LaxEvent>() == 8);
     assert!(size_of::<LaxLogged>() == 16);
+    assert!(size_of::<LaxReplay>() == 96);
+    assert!(size_of::<LaxReplayed>() == 112);
 };

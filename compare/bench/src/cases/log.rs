@@ -1,13 +1,21 @@
 use super::Case;
-use crate::ffi::{log_head, log_record};
+use crate::ffi::{log_head, log_record, log_replay};
 use crate::words::LaxEvent;
-use crate::{inputs, rust, side};
+use crate::{inputs, meaning, rust, side};
+use oracle::Easing;
+use std::hint::black_box;
 
 /// In a pass: three steps of different lengths, then a pause.
 const RECORDS: usize = 1_000;
 
+/// In a pass: steps, of which about every fourth folds.
+const REPLAYED: usize = 4_000;
+const LOST: usize = 512;
+
+const REPLAY_BAR: f64 = 2.0;
+
 pub fn cases() -> Vec<Case> {
-    vec![written()]
+    vec![written(), replayed()]
 }
 
 fn events() -> Vec<LaxEvent> {
@@ -36,6 +44,44 @@ fn written() -> Case {
             for event in &same {
                 written = rust::log_record(log, written, *event).expect("a record");
             }
+        }),
+    }
+}
+
+/// A log of steps, from whose middle some are lost.
+fn log() -> Vec<u8> {
+    let mut log = vec![0; 5 + 8 * (REPLAYED + LOST)];
+    let mut written = log_head(&mut log).written;
+    for step in inputs::below(0.5, REPLAYED + LOST) {
+        written = log_record(&mut log, written, LaxEvent { kind: 1, step }).written;
+    }
+    let middle = 5 + 8 * (REPLAYED / 2);
+    log.drain(middle..middle + 8 * LOST);
+    log
+}
+
+/// The answers are the gaps, and behind them what is missing and where the tween stands.
+fn replayed() -> Case {
+    let first = inputs::tween(&Easing::Linear, 1.0, 0.0);
+    let (begun, log, same) = (meaning::tween(&first), log(), log());
+    let end = |answers: &mut [u16], missing: u64, elapsed: f32| {
+        let bits = elapsed.to_bits();
+        answers[REPLAYED..].copy_from_slice(&[missing as u16, bits as u16, (bits >> 16) as u16]);
+    };
+    Case {
+        name: format!("log replay of {REPLAYED} records"),
+        bar: Some(REPLAY_BAR),
+        answers: REPLAYED as f64,
+        size: 1,
+        ours: side::filling(REPLAYED + 3, move |answers: &mut [u16]| {
+            let answer = log_replay(first, &log, &mut answers[..REPLAYED]);
+            assert_eq!((answer.number, answer.done), (0, REPLAYED));
+            end(answers, answer.reached.missing, answer.reached.tween.elapsed);
+        }),
+        rust: side::filling(REPLAYED + 3, move |answers: &mut [u16]| {
+            let mut tween = begun.clone();
+            let missing = rust::log_replay(black_box(&mut tween), &same, &mut answers[..REPLAYED]);
+            end(answers, missing.expect("a log"), tween.elapsed());
         }),
     }
 }

@@ -6,9 +6,9 @@ use crate::words::{Kind, LaxEvent, Whole};
 
 pub fn words(call: &mut LogCall) -> Vec<(String, Kind, &mut u32)> {
     match call {
-        LogCall::Head { buffer } => bytes(buffer),
+        LogCall::Head { buffer } => bytes("buffer", buffer),
         LogCall::Record { buffer, written, event } => {
-            [bytes(buffer), length("written", written), record("event", event)]
+            [bytes("buffer", buffer), length("written", written), record("event", event)]
                 .into_iter()
                 .flatten()
                 .collect()
@@ -20,17 +20,21 @@ pub fn words(call: &mut LogCall) -> Vec<(String, Kind, &mut u32)> {
     }
 }
 
-fn bytes(buffer: &mut [u32]) -> Vec<(String, Kind, &mut u32)> {
-    buffer.iter_mut().enumerate().map(|(place, byte)| (format!("buffer[{place}]"), Whole, byte)).collect()
+pub fn bytes<'a>(name: &str, bytes: &'a mut [u32]) -> Vec<(String, Kind, &'a mut u32)> {
+    bytes.iter_mut().enumerate().map(|(place, byte)| (format!("{name}[{place}]"), Whole, byte)).collect()
 }
 
-/// A length is two words here, the low one first.
 fn length<'a>(name: &str, length: &'a mut usize) -> Vec<(String, Kind, &'a mut u32)> {
-    let [low, high]: &mut [u32; 2] = unsafe { &mut *(length as *mut usize).cast() };
+    long(name, unsafe { &mut *(length as *mut usize).cast() })
+}
+
+/// Two words here, the low one first.
+pub fn long<'a>(name: &str, long: &'a mut u64) -> Vec<(String, Kind, &'a mut u32)> {
+    let [low, high]: &mut [u32; 2] = unsafe { &mut *(long as *mut u64).cast() };
     vec![(name.to_string(), Whole, low), (format!("{name}, high word"), Whole, high)]
 }
 
-fn all_events(events: &mut [LaxEvent]) -> Vec<(String, Kind, &mut u32)> {
+pub fn all_events(events: &mut [LaxEvent]) -> Vec<(String, Kind, &mut u32)> {
     let named = |(place, event)| record(&format!("events[{place}]"), event);
     events.iter_mut().enumerate().flat_map(named).collect()
 }
@@ -62,17 +66,19 @@ pub fn shorter(call: &LogCall) -> Vec<LogCall> {
     }
 }
 
-fn without_last(buffer: &[u32]) -> Option<Vec<u32>> {
+pub fn without_last(buffer: &[u32]) -> Option<Vec<u32>> {
     buffer.split_last().map(|(_, rest)| rest.to_vec())
 }
 
 fn shorter_logs(buffer: &[u32], written: usize) -> Vec<(Vec<u32>, usize)> {
-    let mut all: Vec<(Vec<u32>, usize)> = Vec::new();
-    let places = (HEAD..buffer.len().min(written)).step_by(RECORD);
-    for place in places.filter(|place| place + RECORD <= buffer.len().min(written)) {
-        let rest = [&buffer[..place], &buffer[place + RECORD..]].concat();
-        all.push((rest, written - RECORD));
-    }
+    let fewer = fewer_records(buffer, HEAD, buffer.len().min(written));
+    let mut all: Vec<_> = fewer.into_iter().map(|rest| (rest, written - RECORD)).collect();
     all.extend(without_last(buffer).map(|buffer| (buffer, written)));
     all
+}
+
+/// Without one of the whole records that lie between two places.
+pub fn fewer_records(bytes: &[u32], first: usize, end: usize) -> Vec<Vec<u32>> {
+    let places = (first..end).step_by(RECORD).filter(|place| place + RECORD <= end);
+    places.map(|place| [&bytes[..place], &bytes[place + RECORD..]].concat()).collect()
 }

@@ -29,7 +29,7 @@ pub fn answer(input: &Input) -> (Vec<u32>, After) {
             let (words, after) = track(t, call);
             (words, After::Track(Box::new(after)))
         }
-        Input::Log(_) => unreachable!("the list has no logs"),
+        Input::Log(_) | Input::Replay(_) => unreachable!("the list has no logs"),
     }
 }
 

@@ -2,11 +2,13 @@
 mod easings;
 mod floats;
 mod logs;
+mod replays;
 mod tracks;
 mod tweens;
 
 pub use floats::EDGES;
 pub use logs::{LAST_NUMBERS, Log};
+pub use replays::{WRITTEN, set_bits, set_number, written};
 pub use tracks::FRAME_COUNTS;
 
 /// A source of inputs. The same seed gives the same inputs.

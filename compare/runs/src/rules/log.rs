@@ -7,7 +7,7 @@ pub const RESUME: u32 = 3;
 pub const RESET: u32 = 4;
 
 /// A log's rules stand in its own order, which has 17 twice; one is asked only where no earlier one applies.
-fn in_order(rules: &[Rule]) -> u32 {
+pub(super) fn in_order(rules: &[Rule]) -> u32 {
     rules.iter().find(|(_, rule)| rule()).map_or(0, |(number, _)| *number)
 }
 

@@ -33,7 +33,7 @@ pub fn breaks_passes(looping: &LaxLoop) -> bool {
     passes(looping).is_some_and(|n| n > 65_535)
 }
 
-fn tween_unknown(t: &LaxTween) -> bool {
+pub fn tween_unknown(t: &LaxTween) -> bool {
     easing_unknown(&t.easing) || loop_unknown(&t.looping) || t.state >= STATES
 }
 

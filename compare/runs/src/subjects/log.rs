@@ -1,7 +1,8 @@
-use crate::difference::{Difference, must, same_bits, same_bytes, same_count};
+use crate::difference::{Difference, must, same_bits, same_count};
 use crate::ffi::{log_head, log_record};
 use crate::log::{self, Entry, HEAD, RECORD};
 use crate::rules::{self, STEP, counted};
+use crate::subjects::lent::Lent;
 use crate::words::{LaxEvent, LaxLogged};
 
 /// A buffer's bytes stand in words, so that they are shown and made smaller as other words are.
@@ -26,10 +27,6 @@ pub enum LogCall {
 
 use LogCall::*;
 
-/// Bytes before and behind a lent buffer, which no call may reach.
-const GUARD: usize = 16;
-const GUARD_BYTE: u8 = 0xa5;
-
 impl LogCall {
     pub fn name(&self) -> &'static str {
         match self {
@@ -50,28 +47,28 @@ impl LogCall {
 
     fn head(&self, before: &[u8]) -> Result<u32, Difference> {
         let mut lent = Lent::new(before);
-        let answer = log_head(lent.buffer());
+        let answer = log_head(lent.list());
         let number = rules::head_refused(before.len());
         if number != 0 {
             self.answered(answer, LaxLogged { written: 0, number })?;
-            lent.same(self.name(), before)?;
+            lent.same(self.name(), "buffer", before)?;
             return Ok(number);
         }
         self.answered(answer, LaxLogged { written: HEAD, number })?;
         let mut expected = before.to_vec();
         expected[..HEAD].copy_from_slice(&head());
-        lent.same(self.name(), &expected)?;
-        self.read_back(&lent.buffer()[..HEAD], &[])?;
+        lent.same(self.name(), "buffer", &expected)?;
+        self.read_back(&lent.list()[..HEAD], &[])?;
         Ok(number)
     }
 
     fn record(&self, before: &[u8], written: usize, event: &LaxEvent) -> Result<u32, Difference> {
         let mut lent = Lent::new(before);
-        let answer = log_record(lent.buffer(), written, *event);
+        let answer = log_record(lent.list(), written, *event);
         let number = rules::record_refused(before, written, event);
         if number != 0 {
             self.answered(answer, LaxLogged { written, number })?;
-            lent.same(self.name(), before)?;
+            lent.same(self.name(), "buffer", before)?;
             return Ok(number);
         }
         let end = written + RECORD;
@@ -79,11 +76,11 @@ impl LogCall {
         let record = Entry { number: next_number(&before[..written]), event: logged(event) };
         let mut expected = before.to_vec();
         expected[written..end].copy_from_slice(&record_bytes(&record));
-        lent.same(self.name(), &expected)?;
+        lent.same(self.name(), "buffer", &expected)?;
         // of the records before it only the last one's number counts, so they may be wrong
         match log::read(&before[..written]) {
-            Some(records) => self.read_back(&lent.buffer()[..end], &[records, vec![record]].concat())?,
-            None => self.same_record(log::read_record(&lent.buffer()[written..end]), &record)?,
+            Some(records) => self.read_back(&lent.list()[..end], &[records, vec![record]].concat())?,
+            None => self.same_record(log::read_record(&lent.list()[written..end]), &record)?,
         }
         Ok(number)
     }
@@ -91,14 +88,14 @@ impl LogCall {
     /// A refused event changes nothing, and the next one follows.
     fn write(&self, before: &[u8], events: &[LaxEvent], rounds: u32) -> Result<u32, Difference> {
         let mut lent = Lent::new(before);
-        let mut answer = log_head(lent.buffer());
+        let mut answer = log_head(lent.list());
         let mut first = rules::head_refused(before.len());
         let mut expected = if first == 0 { head().to_vec() } else { vec![] };
         self.answered(answer, LaxLogged { written: expected.len(), number: first })?;
         let mut records = Vec::new();
         for event in (0..rounds).flat_map(|_| events) {
-            let number = rules::record_refused(lent.buffer(), answer.written, event);
-            answer = log_record(lent.buffer(), answer.written, *event);
+            let number = rules::record_refused(lent.list(), answer.written, event);
+            answer = log_record(lent.list(), answer.written, *event);
             if number == 0 {
                 let number = records.len() as u32 % 65_536;
                 records.push(Entry { number, event: logged(event) });
@@ -108,10 +105,10 @@ impl LogCall {
             first = if first == 0 { number } else { first };
         }
         if !expected.is_empty() {
-            self.read_back(&lent.buffer()[..answer.written], &records)?;
+            self.read_back(&lent.list()[..answer.written], &records)?;
         }
         expected.extend(&before[expected.len()..]);
-        lent.same(self.name(), &expected)?;
+        lent.same(self.name(), "buffer", &expected)?;
         Ok(first)
     }
 
@@ -139,31 +136,7 @@ impl LogCall {
     }
 }
 
-/// A buffer between its guards.
-struct Lent {
-    bytes: Vec<u8>,
-}
-
-impl Lent {
-    fn new(buffer: &[u8]) -> Self {
-        Self { bytes: [&[GUARD_BYTE; GUARD], buffer, &[GUARD_BYTE; GUARD]].concat() }
-    }
-
-    fn buffer(&mut self) -> &mut [u8] {
-        let end = self.bytes.len() - GUARD;
-        &mut self.bytes[GUARD..end]
-    }
-
-    fn same(&self, name: &str, expected: &[u8]) -> Result<(), Difference> {
-        let (before, rest) = self.bytes.split_at(GUARD);
-        let (buffer, behind) = rest.split_at(rest.len() - GUARD);
-        same_bytes(&format!("{name}: before the buffer"), before, &[GUARD_BYTE; GUARD])?;
-        same_bytes(&format!("{name}: buffer"), buffer, expected)?;
-        same_bytes(&format!("{name}: behind the buffer"), behind, &[GUARD_BYTE; GUARD])
-    }
-}
-
-fn bytes(words: &[u32]) -> Vec<u8> {
+pub fn bytes(words: &[u32]) -> Vec<u8> {
     words.iter().map(|word| *word as u8).collect()
 }
 

@@ -1,12 +1,15 @@
 //! Each call: ours, and beside it what the rules and the Rust say. A log has no Rust beside it: its rules and
-//! a reader say it all.
+//! a reader say it all, and of a replay the Rust says what becomes of the tween.
 mod easing;
+mod lent;
 mod log;
+mod replay;
 mod track;
 mod tween;
 
 pub use easing::*;
 pub use log::*;
+pub use replay::*;
 pub use track::*;
 pub use tween::*;
 
