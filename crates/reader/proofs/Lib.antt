@@ -3,6 +3,7 @@ pub mod Wrongs
 pub mod Counting
 pub mod Eights
 pub mod Heard
+pub mod Skimming
 pub mod Readings
 pub mod Refusals
 pub mod Recorded

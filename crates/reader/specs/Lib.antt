@@ -1,4 +1,5 @@
 pub mod Records
 pub mod Hearing
 pub mod Reading
+pub mod Inner
 pub mod Promises

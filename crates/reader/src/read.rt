@@ -1,14 +1,17 @@
 // The calls that read a log.
 ghost use mathlib.Core.Path.{_≡_};
-ghost use Prim.Native.Nat.{_+_, _%_, _/_, _≤_};
+ghost use Prim.Native.Nat.{_+_, _*_, _%_, _/_, _≤_};
 ghost use lib.ListN.{length, take, drop};
 ghost use Rattle.steps.specs.Course.{over};
 ghost use Rattle.reader.specs.Records.{recordsOf};
 ghost use Rattle.reader.specs.Reading.{readingOf, readOnOf, replayOf, answerOf};
 use crate::gaps::Last;
+use crate::gaps::capped_add;
 use crate::hear::Heard;
 use crate::hear::Replay;
+use crate::hear::Skimmed;
 use crate::hear::hear;
+use crate::hear::skim;
 use event_log::has_mark;
 use event_log::has_version;
 use refusal::Refusal;
@@ -22,6 +25,17 @@ pub struct Replayed {
     pub reached: Replay,
     pub done: usize,
     pub outcome: Outcome,
+}
+
+fn so_far(tween: Tween, last: Last, missing: u64, folds: u64) -> Replay
+    ensures { λ r. ⌜ r ≡ record { tween = tween; last = last; missing = missing; folds = folds } ⌝ }
+{
+    Replay {
+        tween,
+        last,
+        missing,
+        folds,
+    }
 }
 
 fn answer(reached: Replay, done: usize, outcome: Outcome) -> Replayed
@@ -40,10 +54,11 @@ fn stopped(reached: Replay, done: usize, refusal: Refusal) -> Replayed
     answer(reached, done, Outcome::Refused(refusal))
 }
 
-fn record_at(records: &[u8], at: usize) -> [u8; 8]
-    requires { ⌜ at + 8 ≤ length (now records) ⌝ }
-    ensures { λ r. ⌜ r ≡ take 8 (drop at (now (records .entry))) ⌝ }
+fn record_at(records: &[u8], i: usize) -> [u8; 8]
+    requires { ⌜ i * 8 + 8 ≤ length (now records) ⌝ }
+    ensures { λ r. ⌜ r ≡ take 8 (drop (i * 8) (now (records .entry))) ⌝ }
 {
+    let at = i * 8;
     [
         records[at],
         records[at + 1],
@@ -61,21 +76,44 @@ fn read_all(first: Replay, records: &[u8], gaps: &mut [u16]) -> Replayed
     ensures answer { λ r. ⌜ r ≡ answerOf (readingOf (recordsOf (now (records .entry))) first) ⌝ }
     ensures list { λ _. ⌜ now (gaps .exit) ≡ over (readingOf (recordsOf (now (records .entry))) first .gaps) (now (gaps .entry)) ⌝ }
 {
-    let mut reached = first;
-    let mut at: usize = 0;
+    let mut t = first.tween;
+    let mut last = first.last;
+    let mut missing = first.missing;
+    let mut folds = first.folds;
+    let mut sure = within(t);
     let mut i: usize = 0;
-    while at < records.len() {
-        match hear(reached, record_at(records, at)) {
-            Heard::Goes(gap, next) => {
+    while i < records.len() / 8 {
+        let bytes = record_at(records, i);
+        match skim(t, last, sure, bytes) {
+            Skimmed::To(number, gap, waited, now) => {
+                t.elapsed = now.elapsed;
+                t.delay_elapsed = waited;
+                t.loop_count = now.loop_count;
+                t.ping_pong_reverse = now.ping_pong_reverse;
+                last = Last::Number(number);
+                missing = capped_add(missing, gap as u64);
+                folds = capped_add(folds, now.folds as u64);
                 gaps[i] = gap;
-                reached = next;
-                at += 8;
                 i += 1;
             }
-            Heard::Stops(refusal) => return stopped(reached, i, refusal),
+            Skimmed::Unsure => {
+                let reached = so_far(t, last, missing, folds);
+                match hear(reached, bytes) {
+                    Heard::Goes(gap, next) => {
+                        t = next.tween;
+                        last = next.last;
+                        missing = next.missing;
+                        folds = next.folds;
+                        sure = within(t);
+                        gaps[i] = gap;
+                        i += 1;
+                    }
+                    Heard::Stops(refusal) => return stopped(reached, i, refusal),
+                }
+            }
         }
     }
-    answer(reached, i, Outcome::Finished)
+    answer(so_far(t, last, missing, folds), i, Outcome::Finished)
 }
 
 // Goes on with the records that follow. What is missing before each goes into the front of gaps.

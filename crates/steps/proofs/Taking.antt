@@ -19,8 +19,8 @@ use Rattle.tween.specs.declared.update.Glided.the-variants.{To}
 use Rattle.tween.specs.Limits.{settingsWithin, clockWithin, withinOf}
 use Rattle.tween.specs.Calls.{valueOf}
 use Rattle.tween.specs.Update.{updateOf}
-use Rattle.tween.specs.Inner.{Glides}
-use Rattle.tween.proofs.Glides.{placed, goes-to}
+use Rattle.tween.specs.Inner.{Glides, placed}
+use Rattle.tween.proofs.Glides.{goes-to}
 use Rattle.tween.proofs.KeptByUpdate.{update-within}
 use Rattle.tween.proofs.Valued.{value-answers}
 use Rattle.steps.specs.declared.take.Taken.{Taken}
@@ -73,9 +73,6 @@ pub took-within : (t u : Tween) (x : Float) (f : Found) (k : ℕ) → stepOf t x
 took-within t u x f k e = subst Fine e (step-fine t x)
 
 module _ (t : Tween) (x w : Float) (p : Folding) (h : Glides t x (To w p)) where
-  pub glide-within : withinOf (placed t w p) ≡ true
-  glide-within = is-true (withinOf (placed t w p)) (update-within t (placed t w p) x (p .folds) true (goes-to t x w p h) (le→leb (p .«loop_count») 16777216 (h .1 .2)))
-
   pub glide-took : (f : Found) → valueOf (placed t w p) ≡ eased.Value f → stepOf t x ≡ Took (placed t w p) f (p .folds)
   unfolding stepOf
   glide-took f e = rw (goes-to t x w p h, e) refl

@@ -2,7 +2,9 @@
 use Prim.Native.Nat.{ℕ, suc}
 use mathlib.Core.Path.{_≡_, refl, sym, ap, _∙_}
 use mathlib.Core.Bool.{Bool, true, false}
+use lib.Dec.{le→leb}
 use lib.Ieee.{Float, eq}
+use lib.Ieee.Bits.{is-true}
 use Rattle.math.specs.Rounded.{zeroF}
 use Rattle.loop_mode.specs.declared.Loop.{Loop}
 use Rattle.tween.specs.declared.record.Tween.{Tween}
@@ -11,10 +13,11 @@ use Rattle.tween.specs.declared.answers.Updated.the-variants.{Ran}
 use Rattle.tween.specs.declared.update.Glided.{Glided}
 use Rattle.tween.specs.declared.update.Glided.the-variants.{To, Unsure}
 use Rattle.folds.specs.declared.Folding.{Folding}
-use Rattle.tween.specs.Parts.{put}
 use Rattle.folds.specs.Folds.{foldOnce, due, foldsOf}
+use Rattle.tween.specs.Limits.{withinOf}
 use Rattle.tween.specs.Update.{beginAt, ran, folded, advanced, updateOf}
-use Rattle.tween.specs.Inner.{Slides, Glides}
+use Rattle.tween.specs.Inner.{Slides, Glides, placed}
+use Rattle.tween.proofs.KeptByUpdate.{update-within}
 
 pub glides : (t : Tween) (x w e : Float) (r : Glided) → t .state ≡ Running → updateOf t x ≡ advanced t w e → Slides t w e r → Glides t x r
 glides t x w e (To v p) s a h = (s, (a ∙ h .0, h .1, h .2))
@@ -34,16 +37,9 @@ one-fold t w e q z b f n =
     let m : due (t .duration) (foldOnce (t .looping) (t .duration) p) ≡ false = ap (due (t .duration)) (sym f) ∙ n in
     rw (z, b, folds-once (t .looping) (t .duration) p m 4094, ← f, n) refl
 
--- t with what a gliding step changes set in place
-abbrev pub placed : Tween → Float → Folding → Tween
-placed t w p =
-    put (record {
-      elapsed = p .elapsed;
-      «delay_elapsed» = w;
-      «loop_count» = p .«loop_count»;
-      «ping_pong_reverse» = p .«ping_pong_reverse»;
-      state = t .state;
-    }) t
-
 pub goes-to : (t : Tween) (x w : Float) (p : Folding) → Glides t x (To w p) → updateOf t x ≡ Ran (placed t w p) (p .folds) true
 goes-to t x w p h = h .1 .0 ∙ (rw (h .0, h .1 .1) refl)
+
+-- and leaves the tween within its limits
+pub glide-within : (t : Tween) (x w : Float) (p : Folding) → Glides t x (To w p) → withinOf (placed t w p) ≡ true
+glide-within t x w p h = is-true (withinOf (placed t w p)) (update-within t (placed t w p) x (p .folds) true (goes-to t x w p h) (le→leb (p .«loop_count») 16777216 (h .1 .2)))

@@ -35,3 +35,14 @@ Slides t w e Unsure = Unit {0}
 abbrev pub Glides : Tween → Float → Glided → Type 0
 Glides t x (To w p) = (t .state ≡ Running) × RunsTo t (updateOf t x) w p
 Glides t x Unsure = Unit {0}
+
+-- t with what a gliding step changes set in place
+abbrev pub placed : Tween → Float → Folding → Tween
+placed t w p =
+    put (record {
+      elapsed = p .elapsed;
+      «delay_elapsed» = w;
+      «loop_count» = p .«loop_count»;
+      «ping_pong_reverse» = p .«ping_pong_reverse»;
+      state = t .state;
+    }) t

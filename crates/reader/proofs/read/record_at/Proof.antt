@@ -23,4 +23,5 @@ record-at-spec =
     (λ c. search needs)
     (λ c. search needs)
     (λ c. search needs)
+    (λ c. search needs)
     (λ c. eight _ _ (c .before .before .before .before .before .before .before .before .pre)))

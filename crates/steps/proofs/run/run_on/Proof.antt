@@ -8,7 +8,8 @@ use lib.ListN.{length}
 use Rattle.math.proofs.Tallies.{byte-below}
 use Rattle.tween.specs.Inner.{Glides}
 use Rattle.steps.proofs.Courses.{Reached, begins, goes-on, stops, finishes}
-use Rattle.steps.proofs.Taking.{took-within, glide-within, glide-took}
+use Rattle.tween.proofs.Glides.{glide-within}
+use Rattle.steps.proofs.Taking.{took-within, glide-took}
 use Rattle.steps.proofs.run.run_on.Statement.{statement}
 use Rattle.steps.proofs.run.run_on.Tie as tie
 
