@@ -13,8 +13,8 @@ use Rattle.event_log.specs.declared.event.Event.{Event}
 use Rattle.event_log.specs.declared.event.Event.the-variants.{Step}
 use Rattle.event_log.specs.Writing.{numberAt}
 use Rattle.reader.specs.declared.gaps.Last.{Last}
-use Rattle.reader.specs.declared.hear.Skimmed.{Skimmed}
-use Rattle.reader.specs.declared.hear.Skimmed.the-variants.{To, Unsure}
+use Rattle.reader.specs.declared.skim.Skimmed.{Skimmed}
+use Rattle.reader.specs.declared.skim.Skimmed.the-variants.{To, Unsure}
 use Rattle.reader.specs.Records.{isWrong, eventIn}
 use Rattle.reader.specs.Hearing.{gapOf, byUpdate, playedOf}
 use Rattle.reader.specs.Inner.{SkimsStep, Skims}

@@ -11,8 +11,8 @@ use Rattle.reader.specs.declared.gaps.Last.{Last}
 use Rattle.reader.specs.declared.gaps.Last.the-variants.{Number}
 use Rattle.reader.specs.declared.hear.Played.the-variants.{Done}
 use Rattle.reader.specs.declared.hear.Heard.the-variants.{Goes}
-use Rattle.reader.specs.declared.hear.Skimmed.{Skimmed}
-use Rattle.reader.specs.declared.hear.Skimmed.the-variants.{To, Unsure}
+use Rattle.reader.specs.declared.skim.Skimmed.{Skimmed}
+use Rattle.reader.specs.declared.skim.Skimmed.the-variants.{To, Unsure}
 use Rattle.reader.specs.Hearing.{capped, playedOf, heardOf}
 
 -- the quick way of an event, and of a record: where it is unsure it promises nothing. w is the new delay_elapsed, and p what folding changes

@@ -3,6 +3,7 @@ mod gaps;
 mod hear;
 mod read;
 mod record;
+mod skim;
 
 pub use gaps::Last;
 pub use hear::Replay;

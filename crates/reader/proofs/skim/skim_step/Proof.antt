@@ -3,8 +3,8 @@ use borrow.Author.Needs.{needs}
 use mathlib.Core.Path.{subst}
 use Rattle.tween.specs.Inner.{Glides}
 use Rattle.reader.proofs.Skimming.{skims-step}
-use Rattle.reader.proofs.hear.skim_step.Statement.{statement}
-use Rattle.reader.proofs.hear.skim_step.Tie as tie
+use Rattle.reader.proofs.skim.skim_step.Statement.{statement}
+use Rattle.reader.proofs.skim.skim_step.Tie as tie
 
 pub skim-step-spec : {M : Type 1} → statement M
 skim-step-spec =

@@ -3,8 +3,8 @@ use borrow.Author.Needs.{needs}
 use mathlib.Core.Path.{sym, _∙_}
 use borrow.Author.Tests.{not-false}
 use Rattle.reader.proofs.Skimming.{skims}
-use Rattle.reader.proofs.hear.skim.Statement.{statement}
-use Rattle.reader.proofs.hear.skim.Tie as tie
+use Rattle.reader.proofs.skim.skim.Statement.{statement}
+use Rattle.reader.proofs.skim.skim.Tie as tie
 
 pub skim-spec : {M : Type 1} → statement M
 skim-spec =
