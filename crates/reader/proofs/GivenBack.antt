@@ -1,12 +1,15 @@
 -- A log of a run's accepted calls gives back the tween that the run left. Assumes nothing.
-use Prim.Native.Nat.{ℕ, _+_, _/_, _<_, _≤_}
+use Prim.Native.Nat.{ℕ, _+_, _*_, _/_, _<_, _≤_}
 use mathlib.Core.Path.{_≡_, refl, sym, ap, _∙_}
 use mathlib.Core.Bool.{Bool, true, false, false≢true}
-use mathlib.Core.List.{List, [], _∷_}
+use mathlib.Core.List.{List, [], _∷_, _++_}
 use native.Mathlib.Nat.{mod-lt, zero-add}
 use native.Mathlib.Omega.{arith}
 use Rattle.math.proofs.Choice.{by-test}
-use lib.ListN.{length, replicate}
+use Rattle.math.proofs.Lists.{every}
+use lib.Dec.{T}
+use lib.ListN.{length, take, drop, replicate}
+use lib.Seq.{take-at}
 use lib.Ieee.{Float, lt}
 use Rattle.math.specs.Rounded.{topF}
 use Rattle.tween.specs.declared.record.Tween.{Tween}
@@ -16,8 +19,10 @@ use Rattle.steps.specs.declared.run.Outcome.the-variants.{Finished}
 use Rattle.event_log.specs.declared.event.Event.{Event}
 use Rattle.event_log.specs.declared.event.Event.the-variants.{Step, Pause, Resume, Reset}
 use Rattle.event_log.specs.Format.{next, recordOf, recordsFrom, logOf}
-use Rattle.event_log.specs.Writing.{isLong}
-use Rattle.event_log.proofs.Logs.{length-records}
+use Rattle.event_log.specs.declared.writer.Logged.the-variants.{Written}
+use Rattle.event_log.specs.Writing.{wrote, headIn, isLong, mayBeLogged, recordsIn}
+use Rattle.event_log.proofs.Logs.{length-records, length-log}
+use Rattle.event_log.proofs.Written.{writes-log}
 use Rattle.reader.specs.declared.gaps.Last.the-variants.{Number}
 use Rattle.reader.specs.declared.hear.Replay.{Replay}
 use Rattle.reader.specs.declared.hear.Played.{Played}
@@ -83,15 +88,30 @@ unfolding ranOf recordsFrom split readingOf
 back [] n s F N z a b = (refl, refl, refl, refl, omega arith)
 back (e ∷ es) n s (F, Fs) N z a b = back-on e es n s (playedOf (s .tween) e) refl N F z a (λ m v. back es m v Fs) b
 
+-- the writer takes each call that was accepted
+taken : (e : Event) (es : List Event) (t : Tween) (p : Played) → playedOf t e ≡ p → Forward e → ((u : Tween) → T (every mayBeLogged (ranOf es u .calls))) → T (every mayBeLogged (ranOn p e t (ranOf es) .calls))
+taken e es t (Refused r) P F rest = rest t
+taken e es t (Done u k) P F rest = rw (accepted-short t e u k P, F .1) (rest u)
+
+all-taken : (es : List Event) (t : Tween) → AllForward es → T (every mayBeLogged (ranOf es t .calls))
+unfolding ranOf
+all-taken [] t F = tt
+all-taken (e ∷ es) t (F, Fs) = taken e es t (playedOf t e) refl F (λ u. all-taken es u Fs)
+
 pub gives-back : GivesBack
-gives-back t es list W F room =
+gives-back t es buffer list W F space room =
     let calls = ranOf es t .calls in
     let bytes = recordsFrom 0 calls in
+    let log = logOf calls in
+    let n = 5 + 8 * length calls in
     let long = length-records 0 calls in
     let e : length bytes / 8 ≡ length calls = omega arith in
-    let q : replayOf t (logOf calls) list ≡ readingOf (split (length calls) bytes) (beginOf t) =
-    reads-log t (logOf calls) list W refl refl
+    let q : replayOf t log list ≡ readingOf (split (length calls) bytes) (beginOf t) =
+    reads-log t log list W refl refl
     ∙ reads (beginOf t) bytes list (omega arith) (omega arith)
-    ∙ ap (λ (n : ℕ). readingOf (split n bytes) (beginOf t)) e
+    ∙ ap (λ (m : ℕ). readingOf (split m bytes) (beginOf t)) e
     in
-    rw q (rw (zero-add (ranOf es t .folds)) at (back es 0 (beginOf t) F (omega arith) refl (omega arith) (omega arith)))
+    let w : recordsIn calls (headIn buffer) ≡ wrote buffer 0 log = writes-log buffer calls (all-taken es t F) space in
+    let b : take n (log ++ drop (0 + length log) buffer) ≡ log = take-at log (drop (0 + length log) buffer) n (length-log calls) in
+    let i = back es 0 (beginOf t) F (omega arith) refl (omega arith) (omega arith) in
+    rw (w, b, q) (ap Written (omega (arith, length-log calls)), i .0, i .1, i .2, i .3, i .4 ∙ ap capped (zero-add (ranOf es t .folds)))

@@ -16,7 +16,8 @@ use Rattle.steps.specs.declared.run.Outcome.the-variants.{Finished}
 use Rattle.event_log.specs.declared.event.Event.{Event}
 use Rattle.event_log.specs.declared.event.Event.the-variants.{Step, Pause, Resume}
 use Rattle.event_log.specs.Format.{stepOf, logOf}
-use Rattle.event_log.specs.Writing.{isLong, isBackward}
+use Rattle.event_log.specs.declared.writer.Logged.the-variants.{Written}
+use Rattle.event_log.specs.Writing.{headIn, isLong, isBackward, recordsIn}
 use Rattle.reader.specs.declared.hear.Replay.{Replay}
 use Rattle.reader.specs.declared.hear.Played.{Played}
 use Rattle.reader.specs.declared.hear.Played.the-variants.{Done, Refused}
@@ -49,13 +50,16 @@ abbrev pub AllForward : List Event → Type 0
 AllForward [] = Unit {0}
 AllForward (e ∷ es) = Forward e × AllForward es
 
--- "For a run of updates, pauses, resumes and resets alone, a log by our writer that holds just its accepted calls, in order, gives no gaps and, from the same tween, the tween that the run left": it is read to its end, with nothing missing and the run's folds
+-- "For a run of updates, pauses, resumes and resets alone, a log by our writer that holds just its accepted calls, in order, gives no gaps and, from the same tween, the tween that the run left": the writer takes the calls, and what it wrote is read to its end, with nothing missing and the run's folds
 abbrev pub GivesBack : Type 0
 GivesBack =
-    (t : Tween) (es : List Event) (list : List ℕ) → withinOf t ≡ true → AllForward es
-    → let run = ranOf es t in length (run .calls) ≤ length list
-    → let c = replayOf t (logOf (run .calls)) list in
-    (c .gaps ≡ replicate (length (run .calls)) 0)
+    (t : Tween) (es : List Event) (buffer list : List ℕ) → withinOf t ≡ true → AllForward es
+    → let run = ranOf es t in
+    let n = length (run .calls) in 5 + 8 * n ≤ length buffer → n ≤ length list
+    → let w = recordsIn (run .calls) (headIn buffer) in
+    let c = replayOf t (take (5 + 8 * n) (w .buffer)) list in
+    (w .answer ≡ Written (5 + 8 * n))
+    × (c .gaps ≡ replicate n 0)
     × (c .outcome ≡ Finished)
     × (c .replay .tween ≡ run .tween)
     × (c .replay .missing ≡ 0)
