@@ -42,7 +42,7 @@ unfoldable pub ranOf : List Event → Tween → Ran
 ranOf [] t = record { tween = t; calls = []; folds = 0 }
 ranOf (e ∷ es) t = ranOn (playedOf t e) e t (ranOf es)
 
--- a step is an f32, and neither NaN nor below zero: such an update the writer refuses, 14
+-- a step that is an f32, and neither NaN nor below zero, as the writer asks, 14
 abbrev pub Forward : Event → Type 0
 Forward e = T (fits binary32 (stepOf e)) × (isBackward e ≡ false)
 
@@ -103,11 +103,11 @@ ReplayDemand3 =
     → let h : Past = record { tween = c .replay .tween; taken = afterAll (fresh u) acts .taken; made = c .replay .folds } in
     Holds (t .looping) D s (scaled s W (h .taken)) h
 
--- so many bytes are whole records, and a list has a place for each
+-- neither 17 nor 12: the bytes are whole records, and the list has a place for each
 abbrev pub Fits : List ℕ → List ℕ → Type 0
 Fits bytes list = (length bytes % 8 ≡ 0) × (length bytes / 8 ≤ length list)
 
--- "A log of any length is read in one pass [..] a chunk at a time": part after part gives what the whole gives. first, second and list are lent for the parts and for the whole
+-- added: a log can be read in parts, and part after part gives what the whole gives. first and second are the lists that are lent for the parts, list the one for the whole
 abbrev pub PartByPart : Type 0
 PartByPart =
     (s : Replay) (bytes more first second list : List ℕ) → Fits bytes first → Fits more second → Fits (bytes ++ more) list
