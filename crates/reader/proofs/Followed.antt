@@ -64,12 +64,12 @@ last-on : (number m : ℕ) → number < 65536 → lastOf (next number) m (Number
 last-on number zero h = ap Number (omega arith)
 last-on number (suc m) h = ap Number (omega arith)
 
-one : (e : Event) (m number : ℕ) (s : Replay) (g : ℕ) (p : Played) (rest : Replay → Reading) → number < 65536
+one : (m number : ℕ) (s : Replay) (g : ℕ) (p : Played) (rest : Replay → Reading) → number < 65536
     → ((u : Replay) → u .last ≡ Number number → Follows m (next number) u 0 (rest u))
     → Follows (suc m) number s g (followed (further p s number g) s rest)
 unfolding isFinished
-one e m number s g (Refused r) rest N h = (refl, refl, λ q. absurd (false≢true (ap isFinished q)))
-one e m number s g (Done u k) rest N h =
+one m number s g (Refused r) rest N h = (refl, refl, λ q. absurd (false≢true (ap isFinished q)))
+one m number s g (Done u k) rest N h =
     let v : Replay = record { tween = u; last = Number number; missing = capped (s .missing + g); folds = capped (s .folds + k) } in
     let i = h v refl in
     (ap (λ (l : List ℕ). g ∷ l) (i .0 ∙ front-again m (length (rest v .gaps))), i .1 ∙ stays (rest v .gaps) (s .missing + g), λ q. (ap suc (i .2 q .0), i .2 q .1 ∙ last-on number m N))
@@ -83,7 +83,7 @@ follows (e ∷ es) number s g (L, Ls) N G new =
     hears-recorded number N s e L (λ q. new (sym G ∙ q)) ∙ ap (further (playedOf (s .tween) e) s number) G
     in
     rw heard
-    (one e (length es) number s g (playedOf (s .tween) e) (readingOf (split (length es) (recordsFrom (next number) es))) N (λ u q.
+    (one (length es) number s g (playedOf (s .tween) e) (readingOf (split (length es) (recordsFrom (next number) es))) N (λ u q.
     follows es (next number) u 0 Ls (mod-lt (number + 1) (omega arith)) (ap (λ (l : Last). gapOf l (next number)) q ∙ gap-next number N) (λ z. omega (arith, z))))
 
 zeros : (n j : ℕ) → getD (replicate {A = ℕ} n 0) j 0 ≡ 0
