@@ -1,6 +1,6 @@
 // Reads an event log back: replays it into a tween, and counts what is missing.
 mod gaps;
-mod hear;
+pub mod hear;
 mod read;
 mod record;
 mod skim;
@@ -10,3 +10,5 @@ pub use hear::Replay;
 pub use read::Replayed;
 pub use read::replay;
 pub use read::replay_on;
+pub use record::bits_in;
+pub use record::number_in;

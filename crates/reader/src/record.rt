@@ -24,7 +24,7 @@ pub fn number_in(bytes: [u8; 8]) -> u16
     word(bytes[0], bytes[1])
 }
 
-fn bits_in(bytes: [u8; 8]) -> u32
+pub fn bits_in(bytes: [u8; 8]) -> u32
     ensures { λ r. ⌜ r ≡ bitsIn bytes ⌝ }
 {
     wide_word(bytes[4], bytes[5], bytes[6], bytes[7])

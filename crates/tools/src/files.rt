@@ -1,0 +1,72 @@
+// Files by argument.
+ghost use Rattle.io.specs.Counts.{Counts};
+use crate::saying::say;
+use libc::STDERR_FILENO;
+
+// Opens the file that an argument names, for reading. Below 0 where it can't, and then standard error has
+// a line that says why.
+pub fn open_argument(i: usize, usage: &[u8]) -> i32 {
+    let mut path = io::buffer();
+    let length = os::arg(i, &mut path);
+    if os::errno() != 0 {
+        say(STDERR_FILENO, usage);
+        return -1;
+    }
+    let fd = os::open_read(&path[..length]);
+    if fd < 0 {
+        os::fail(&path[..length]);
+    }
+    fd
+}
+
+pub fn say_argument(fd: i32, i: usize) {
+    let mut path = io::buffer();
+    let length = os::arg(i, &mut path);
+    say(fd, &path[..length]);
+}
+
+// bytes of the buffer were filled. failed: a read failed, and not the file ended.
+pub struct Filled {
+    pub bytes: usize,
+    pub failed: bool,
+}
+
+// Reads until the buffer is full, the file ends or a read fails.
+pub fn fill(fd: i32, buffer: &mut [u8]) -> Filled
+    ensures { λ r. ⌜ Counts (r .bytes) (now (buffer .exit)) ⌝ }
+{
+    let mut bytes: usize = 0;
+    while bytes < buffer.len() {
+        let got = libc::read(fd, &mut buffer[bytes..]);
+        if got < 0 {
+            return Filled {
+                bytes,
+                failed: true,
+            };
+        }
+        let more = io::count(got, &buffer[bytes..]);
+        if more == 0 {
+            return Filled {
+                bytes,
+                failed: false,
+            };
+        }
+        bytes += more;
+    }
+    Filled {
+        bytes,
+        failed: false,
+    }
+}
+
+// The length of a file, which is read from its start; below 0 where it has none, as a pipe.
+pub fn length_of(fd: i32) -> i64 {
+    let length = libc::lseek(fd, 0, libc::SEEK_END);
+    if length < 0 {
+        return -1;
+    }
+    if libc::lseek(fd, 0, libc::SEEK_SET) != 0 {
+        return -1;
+    }
+    length
+}
