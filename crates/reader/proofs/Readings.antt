@@ -21,6 +21,13 @@ pub records-cons : (l : List ℕ) → 8 ≤ length l → recordsOf l ≡ take 8 
 unfolding split
 records-cons l h = let e : length l / 8 ≡ suc (length (drop 8 l) / 8) = omega (arith, length-drop 8 l) in ap (λ (n : ℕ). split n l) e
 
+-- the record at place i, and those behind it
+pub records-next : (bytes : List ℕ) (i : ℕ) → i < length bytes / 8 → recordsOf (drop (i * 8) bytes) ≡ take 8 (drop (i * 8) bytes) ∷ recordsOf (drop ((i + 1) * 8) bytes)
+records-next bytes i h =
+    let e : i * 8 + 8 ≡ (i + 1) * 8 = omega arith in
+    records-cons (drop (i * 8) bytes) (omega (arith, length-drop (i * 8) bytes))
+    ∙ ap (λ (l : List ℕ). take 8 (drop (i * 8) bytes) ∷ recordsOf l) (drop-drop 8 (i * 8) bytes ∙ ap (λ (n : ℕ). drop n bytes) e)
+
 -- gaps that come before those of a reading
 abbrev behind : List ℕ → Reading → Reading
 behind front c = record { gaps = front ++ c .gaps; replay = c .replay; outcome = c .outcome }
@@ -45,19 +52,13 @@ module _ (bytes gaps₀ : List ℕ) (s₀ : Replay) where
     pub place : i < length bytes / 8 → i < length gaps
     place h = omega (arith, r .gaps-long)
 
-    next-record : i < length bytes / 8 → recordsOf (drop (i * 8) bytes) ≡ take 8 (drop (i * 8) bytes) ∷ recordsOf (drop ((i + 1) * 8) bytes)
-    next-record h =
-        let e : i * 8 + 8 ≡ (i + 1) * 8 = omega arith in
-        records-cons (drop (i * 8) bytes) (omega (arith, length-drop (i * 8) bytes, here h))
-        ∙ ap (λ (l : List ℕ). take 8 (drop (i * 8) bytes) ∷ recordsOf l) (drop-drop 8 (i * 8) bytes ∙ ap (λ (n : ℕ). drop n bytes) e)
-
     pub goes-on : (g : ℕ) (u : Replay) → i < length bytes / 8 → heardOf s (take 8 (drop (i * 8) bytes)) ≡ Goes g u → Reached bytes gaps₀ s₀ (set gaps i g) u (i + 1)
     unfolding readingOf
     goes-on g u h e =
         record {
           front = r .front ++ (g ∷ []);
           gaps-are = more 0 (r .front) i gaps gaps₀ g (omega (arith, place h, r .gaps-long)) (r .gaps-are);
-          reading-is = r .reading-is ∙ (rw (next-record h, e, append-assoc));
+          reading-is = r .reading-is ∙ (rw (records-next bytes i h, e, append-assoc));
           gaps-long = length-set gaps i g ∙ r .gaps-long;
           few = omega (arith, here h);
         }
@@ -70,7 +71,7 @@ module _ (bytes gaps₀ : List ℕ) (s₀ : Replay) where
     pub stops : (x : Refusal) → i < length bytes / 8 → heardOf s (take 8 (drop (i * 8) bytes)) ≡ Stops x
         → (record { reached = s; done = i; outcome = Refused x } ≡ answerOf (readingOf (recordsOf bytes) s₀)) × (gaps ≡ over (readingOf (recordsOf bytes) s₀ .gaps) gaps₀)
     unfolding readingOf
-    stops x h e = ends (Refused x) (rw (next-record h, e))
+    stops x h e = ends (Refused x) (rw (records-next bytes i h, e))
 
     pub finishes : length bytes / 8 ≤ i
         → (record { reached = s; done = i; outcome = Finished } ≡ answerOf (readingOf (recordsOf bytes) s₀)) × (gaps ≡ over (readingOf (recordsOf bytes) s₀ .gaps) gaps₀)

@@ -6,9 +6,11 @@ mod record;
 mod skim;
 
 pub use gaps::Last;
+pub use gaps::capped_add;
 pub use hear::Replay;
 pub use read::Replayed;
+pub use read::record_at;
 pub use read::replay;
 pub use read::replay_on;
-pub use record::bits_in;
 pub use record::number_in;
+pub use record::step_in;

@@ -54,7 +54,7 @@ fn stopped(reached: Replay, done: usize, refusal: Refusal) -> Replayed
     answer(reached, done, Outcome::Refused(refusal))
 }
 
-fn record_at(records: &[u8], i: usize) -> [u8; 8]
+pub fn record_at(records: &[u8], i: usize) -> [u8; 8]
     requires { ⌜ i * 8 + 8 ≤ length (now records) ⌝ }
     ensures { λ r. ⌜ r ≡ take 8 (drop (i * 8) (now (records .entry))) ⌝ }
 {

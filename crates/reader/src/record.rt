@@ -1,9 +1,11 @@
 // What the 8 bytes of a record say.
 ghost use mathlib.Core.Path.{_≡_};
-ghost use mathlib.Core.Bool.{false};
+ghost use mathlib.Core.Bool.{false, cond};
 ghost use Prim.Native.Nat.{_+_, _*_};
+ghost use lib.Dec.{ltb};
+ghost use Rattle.math.specs.Rounded.{zeroF};
 ghost use Rattle.event_log.specs.Writing.{numberAt};
-ghost use Rattle.reader.specs.Records.{bitsIn, isWrong, eventIn};
+ghost use Rattle.reader.specs.Records.{bitsIn, stepIn, isWrong, eventIn};
 use event_log::Event;
 
 fn word(a: u8, b: u8) -> u16
@@ -24,10 +26,21 @@ pub fn number_in(bytes: [u8; 8]) -> u16
     word(bytes[0], bytes[1])
 }
 
-pub fn bits_in(bytes: [u8; 8]) -> u32
+fn bits_in(bytes: [u8; 8]) -> u32
     ensures { λ r. ⌜ r ≡ bitsIn bytes ⌝ }
 {
     wide_word(bytes[4], bytes[5], bytes[6], bytes[7])
+}
+
+// In seconds; 0 for a pattern that no step has.
+pub fn step_in(bytes: [u8; 8]) -> f32
+    ensures { λ r. ⌜ r ≡ cond (ltb (bitsIn bytes) 0x7f80_0000) (stepIn bytes) zeroF ⌝ }
+{
+    let bits = bits_in(bytes);
+    if bits < 0x7f80_0000 {
+        return f32::from_bits(bits);
+    }
+    0.0
 }
 
 // The patterns below infinity's are those of the finite steps from +0 up.
