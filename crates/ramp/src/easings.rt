@@ -23,7 +23,7 @@ fn kind_named(text: &[u8], word: Word) -> u32 {
 }
 
 // How many of a kind's parameters are decimals.
-fn decimals(kind: u32) -> u32 {
+pub fn decimals(kind: u32) -> u32 {
     match kind {
         31 => 4,
         33 => 1,
@@ -35,7 +35,7 @@ fn decimals(kind: u32) -> u32 {
 }
 
 // Whether the last parameter of a kind is a whole number.
-fn has_count(kind: u32) -> bool {
+pub fn has_count(kind: u32) -> bool {
     (kind == 32) | (kind == 33) | (kind == 35)
 }
 

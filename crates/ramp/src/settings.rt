@@ -94,6 +94,11 @@ fn mode_named(text: &[u8], word: Word) -> u32 {
     mode
 }
 
+// Whether a mode has a number of passes: Times and PingPongTimes.
+pub fn has_passes(mode: u32) -> bool {
+    (mode == 1) | (mode == 4)
+}
+
 fn with_mode(t: LaxTween, mode: u32, passes: u32) -> LaxTween {
     let mut w = t;
     let looping = LaxLoop { mode, passes };
@@ -106,7 +111,7 @@ fn mode_set(t: LaxTween, text: &[u8], word: Word) -> Setting {
     if mode > 4 {
         return Setting::Wrong(word, Expected::Mode);
     }
-    if (mode != 1) & (mode != 4) {
+    if !has_passes(mode) {
         return Setting::Set(with_mode(t, mode, 0), word.to);
     }
     let passes = lines::word_behind(text, word.to);

@@ -59,14 +59,41 @@ pub fn fill(fd: i32, buffer: &mut [u8]) -> Filled
     }
 }
 
-// The length of a file, which is read from its start; below 0 where it has none, as a pipe.
-pub fn length_of(fd: i32) -> i64 {
+// The same, of the file that an argument names. Where a read fails standard error has a line that says why.
+pub fn fill_from(fd: i32, argument: usize, buffer: &mut [u8]) -> Filled
+    ensures { λ r. ⌜ Counts (r .bytes) (now (buffer .exit)) ⌝ }
+{
+    let mut path = io::buffer();
+    let length = os::arg(argument, &mut path);
+    let filled = fill(fd, buffer);
+    if filled.failed {
+        os::fail(&path[..length]);
+    }
+    filled
+}
+
+pub enum Length {
+    Bytes(u64),
+    // As a pipe's.
+    Unknown,
+}
+
+// 0 for what is below 0.
+fn bytes_in(length: i64) -> u64 {
+    if length < 0 {
+        return 0;
+    }
+    length as u64
+}
+
+// The length of a file, whose position goes to its start.
+pub fn length_of(fd: i32) -> Length {
     let length = libc::lseek(fd, 0, libc::SEEK_END);
     if length < 0 {
-        return -1;
+        return Length::Unknown;
     }
     if libc::lseek(fd, 0, libc::SEEK_SET) != 0 {
-        return -1;
+        return Length::Unknown;
     }
-    length
+    Length::Bytes(bytes_in(length))
 }

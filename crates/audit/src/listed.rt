@@ -1,0 +1,92 @@
+// Lists of records, a line each, cut behind the first 20.
+use crate::put::line;
+use crate::put::number_line;
+use survey::Seen;
+use tools::say;
+use tools::say_float;
+use tools::say_number;
+
+// What is said of each record.
+pub enum Line {
+    Gap,
+    Repeat,
+    Made,
+    Missing,
+}
+
+fn gap_line(one: Seen) {
+    say(1, b"gap ");
+    say_number(1, one.gap as u64);
+    say(1, b" missing before record ");
+    say_number(1, one.place);
+    say(1, b": number ");
+    say_number(1, one.number as u64);
+    number_line(b" follows ", one.last as u64);
+}
+
+fn repeat_line(one: Seen) {
+    say(1, b"repeat record ");
+    say_number(1, one.place);
+    number_line(b": again number ", one.number as u64);
+}
+
+fn made_line(one: Seen) {
+    say(1, b"answer the ");
+    say_number(1, one.folds);
+    say(1, b" passes of record ");
+    say_number(1, one.place);
+    say(1, b" were made, by its step of ");
+    say_float(1, one.step);
+    line(b" s");
+}
+
+fn missing_line(one: Seen) {
+    say(1, b"answer ");
+    say_number(1, one.gap as u64);
+    if one.gap == 1 {
+        say(1, b" record is missing before record ");
+    } else {
+        say(1, b" records are missing before record ");
+    }
+    say_number(1, one.place);
+    line(b": what was done there can't be known");
+}
+
+fn one_line(what: Line, one: Seen) {
+    match what {
+        Line::Gap => gap_line(one),
+        Line::Repeat => repeat_line(one),
+        Line::Made => made_line(one),
+        Line::Missing => missing_line(one),
+    }
+}
+
+// How many more there are than are listed.
+fn rest_line(what: Line, rest: u64) {
+    match what {
+        Line::Gap => number_line(b"gap and more such records: ", rest),
+        Line::Repeat => number_line(b"repeat and more such records: ", rest),
+        Line::Made => number_line(
+            b"answer and more such updates, whose passes were made: ",
+            rest,
+        ),
+        Line::Missing => number_line(
+            b"answer and more such gaps, of which nothing can be known: ",
+            rest,
+        ),
+    }
+}
+
+pub fn list_lines(what: Line, list: [Seen; 20], count: u64) {
+    let mut i: usize = 0;
+    while i < 20 {
+        if (i as u64) < count {
+            let one = list[i];
+            one_line(what, one);
+        }
+        i += 1;
+    }
+    if count > 20 {
+        rest_line(what, count - 20);
+    }
+}

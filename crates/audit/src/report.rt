@@ -1,0 +1,137 @@
+// What was found, a line each.
+use crate::answer::answers;
+use crate::listed::Line;
+use crate::listed::list_lines;
+use crate::put::float_line;
+use crate::put::line;
+use crate::put::number_line;
+use crate::walk::Walk;
+use easing::Eased;
+use reader::Last;
+use reader::Replay;
+use survey::Counts;
+use survey::Lists;
+use survey::Seen;
+use survey::Survey;
+use tools::say;
+use tools::say_number;
+use tween::Tween;
+
+pub fn end_refused(number: u32) {
+    number_line(b"end refused ", number as u64);
+}
+
+fn most_line(one: Seen) {
+    say(1, b"most ");
+    say_number(1, one.folds);
+    say(1, b" by record ");
+    say_number(1, one.place);
+    float_line(b", a step of ", one.step);
+}
+
+fn most_lines(list: [Seen; 5]) {
+    let mut i: usize = 0;
+    while i < 5 {
+        let one = list[i];
+        if one.folds > 0 {
+            most_line(one);
+        }
+        i += 1;
+    }
+}
+
+fn last_number(last: Last) -> u32 {
+    match last {
+        Last::Number(n) => n as u32,
+        Last::Unread => 0,
+    }
+}
+
+fn records_lines(records: u64, first: u32, last: Last) {
+    number_line(b"records ", records);
+    if first < 65536 {
+        say(1, b"numbers ");
+        say_number(1, first as u64);
+        number_line(b" to ", last_number(last) as u64);
+    }
+}
+
+fn lists_lines(lists: Lists, counts: Counts, reached: Replay) {
+    let gaps = lists.gaps;
+    list_lines(Line::Gap, gaps, counts.gaps);
+    number_line(b"gaps ", counts.gaps);
+    number_line(b"missing ", reached.missing);
+    let repeats = lists.repeats;
+    list_lines(Line::Repeat, repeats, counts.repeats);
+    number_line(b"repeats ", counts.repeats);
+    number_line(b"folds ", reached.folds);
+    let most = lists.most;
+    most_lines(most);
+}
+
+fn stopped_line(place: u64, refused: u32) {
+    if refused == 0 {
+        return;
+    }
+    say(1, b"stopped at record ");
+    say_number(1, place);
+    say(1, b": ");
+    tools::say_refusal(1, refused);
+    line(b"");
+}
+
+fn value_line(found: Eased) {
+    match found {
+        Eased::Value(f) => float_line(b"tween value ", f.value),
+        Eased::Refused(refusal) => number_line(b"tween value refused ", refusal.number() as u64),
+    }
+}
+
+fn tween_lines(t: Tween) {
+    let w = words::tween_words(t);
+    say(1, b"tween state ");
+    tools::say_name(1, names::state(w.state));
+    line(b"");
+    float_line(b"tween elapsed ", w.elapsed);
+    float_line(b"tween delay_elapsed ", w.delay_elapsed);
+    number_line(b"tween loop_count ", w.loop_count as u64);
+    if t.ping_pong_reverse {
+        line(b"tween reversed yes");
+    } else {
+        line(b"tween reversed no");
+    }
+    value_line(t.value());
+}
+
+fn end_line(refused: u32, counts: Counts, failed: bool) {
+    if failed {
+        line(b"end unreadable");
+        return;
+    }
+    if refused != 0 {
+        end_refused(refused);
+        return;
+    }
+    if (counts.gaps == 0) & (counts.repeats == 0) {
+        line(b"end ok");
+        return;
+    }
+    say(1, b"end gaps ");
+    say_number(1, counts.gaps);
+    number_line(b" repeats ", counts.repeats);
+}
+
+pub fn all(w: Walk) {
+    let s = w.survey;
+    let reached = s.reached;
+    let counts = s.counts;
+    let lists = s.lists;
+    let last = reached.last;
+    let t = reached.tween;
+    records_lines(counts.records, w.first, last);
+    lists_lines(lists, counts, reached);
+    stopped_line(counts.records, s.refused);
+    tween_lines(t);
+    answers(lists, counts, w.first);
+    end_line(s.refused, counts, w.failed);
+}
