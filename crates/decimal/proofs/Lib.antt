@@ -1,3 +1,6 @@
+pub mod Answers
 pub mod Doubling
+pub mod Fewest
+pub mod Pattern
 pub mod Printed
 pub mod Spelling
