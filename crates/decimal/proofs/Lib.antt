@@ -1,6 +1,10 @@
 pub mod Answers
+pub mod Close
 pub mod Doubling
 pub mod Fewest
+pub mod Heard
 pub mod Pattern
+pub mod Places
 pub mod Printed
+pub mod ReadsBack
 pub mod Spelling
