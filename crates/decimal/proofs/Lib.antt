@@ -1,1 +1,2 @@
+pub mod Fractions
 pub mod Scanning
