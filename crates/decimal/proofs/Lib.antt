@@ -1,2 +1,3 @@
 pub mod Fractions
+pub mod Patterns
 pub mod Scanning
