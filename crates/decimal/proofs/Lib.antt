@@ -2,9 +2,12 @@ pub mod Answers
 pub mod Close
 pub mod Doubling
 pub mod Fewest
+pub mod Fractions
 pub mod Heard
-pub mod Pattern
+pub mod Patterns
 pub mod Places
 pub mod Printed
 pub mod ReadsBack
+pub mod Scanning
+pub mod Sizes
 pub mod Spelling
