@@ -1,8 +1,8 @@
 -- The words for what is no finite number, and what is answered of a text that holds it. Assumes nothing.
 use Prim.Native.Nat.{ℕ, _≤_}
-use mathlib.Core.Path.{_≡_, refl, sym, ap, _∙_}
-use mathlib.Core.Bool.{Bool, true, false, true≢false}
-use mathlib.Core.List.{List, [], _∷_}
+use mathlib.Core.Path.{_≡_, sym}
+use mathlib.Core.Bool.{true, false, true≢false}
+use mathlib.Core.List.{List, _∷_}
 use lib.ListN.{length, take, replicate}
 use lib.Seq.{length-take-le}
 use lib.Ieee.{Float, nan, inf, fin, lt, isNan, ofBits}
