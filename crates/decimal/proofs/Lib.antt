@@ -1,6 +1,7 @@
 pub mod Answers
 pub mod Close
 pub mod Doubling
+mod Examples
 pub mod Fewest
 pub mod Fractions
 pub mod Heard
