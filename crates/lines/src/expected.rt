@@ -14,6 +14,8 @@ pub enum Expected {
     Easing,
     // An event of a script.
     Event,
+    // A record before it, to repeat.
+    RecordBefore,
     // A decimal.
     Number,
     // One with at most 64 digits.

@@ -27,6 +27,7 @@ fn say_expected(expected: Expected) {
             STDERR_FILENO,
             b"step SECONDS [TIMES], pause, resume, reset, drop N or repeat N",
         ),
+        Expected::RecordBefore => say(STDERR_FILENO, b"a record just before it"),
         Expected::Number => say(
             STDERR_FILENO,
             b"a number: digits, a point if need be, a sign before them",

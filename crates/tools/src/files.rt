@@ -72,6 +72,31 @@ pub fn fill_from(fd: i32, argument: usize, buffer: &mut [u8]) -> Filled
     filled
 }
 
+// The whole text of the file that an argument names, which has to be shorter than the buffer. failed:
+// standard error has a line that says why.
+pub fn read_text(argument: usize, usage: &[u8], buffer: &mut [u8]) -> Filled
+    ensures { λ r. ⌜ Counts (r .bytes) (now (buffer .exit)) ⌝ }
+{
+    let fd = open_argument(argument, usage);
+    if fd < 0 {
+        return Filled {
+            bytes: 0,
+            failed: true,
+        };
+    }
+    let filled = fill_from(fd, argument, buffer);
+    libc::close(fd);
+    if filled.failed | (filled.bytes < buffer.len()) {
+        return filled;
+    }
+    say_argument(STDERR_FILENO, argument);
+    say(STDERR_FILENO, b": the file is too long\n");
+    Filled {
+        bytes: 0,
+        failed: true,
+    }
+}
+
 pub enum Length {
     Bytes(u64),
     // As a pipe's.

@@ -12,6 +12,7 @@ pub use files::fill;
 pub use files::fill_from;
 pub use files::length_of;
 pub use files::open_argument;
+pub use files::read_text;
 pub use files::say_argument;
 pub use ramps::RampRead;
 pub use ramps::read_ramp;

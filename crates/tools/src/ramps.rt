@@ -1,13 +1,10 @@
 // The ramp that an argument names.
 use crate::explain::say_fault;
-use crate::files::fill_from;
-use crate::files::open_argument;
-use crate::files::say_argument;
+use crate::files::read_text;
 use crate::saying::say;
 use crate::saying::say_float;
 use crate::saying::say_name;
 use crate::saying::say_number;
-use libc::STDERR_FILENO;
 use ramp::Parsed;
 use ramp::parse_ramp;
 use tween::Tween;
@@ -32,22 +29,12 @@ fn parsed(argument: usize, text: &[u8]) -> RampRead {
 
 // The ramp of a file of at most 65,535 bytes.
 pub fn read_ramp(argument: usize, usage: &[u8]) -> RampRead {
-    let fd = open_argument(argument, usage);
-    if fd < 0 {
-        return RampRead::Unreadable;
-    }
     let mut text = io::large_buffer();
-    let filled = fill_from(fd, argument, &mut text);
-    libc::close(fd);
+    let filled = read_text(argument, usage, &mut text);
     if filled.failed {
         return RampRead::Unreadable;
     }
     let length = filled.bytes;
-    if length == 65536 {
-        say_argument(STDERR_FILENO, argument);
-        say(STDERR_FILENO, b": a ramp has at most 65535 bytes\n");
-        return RampRead::Unreadable;
-    }
     parsed(argument, &text[..length])
 }
 
