@@ -11,4 +11,4 @@ pub mod Printed
 pub mod ReadsBack
 pub mod Scanning
 pub mod Sizes
-pub mod Spelling
+pub mod Texts
