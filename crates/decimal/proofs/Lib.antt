@@ -1,12 +1,12 @@
 pub mod Answers
 pub mod Close
-pub mod Doubling
 mod Examples
 pub mod Fewest
 pub mod Fractions
 pub mod Heard
 pub mod Patterns
 pub mod Places
+pub mod Powers
 pub mod Printed
 pub mod ReadsBack
 pub mod Scanning
