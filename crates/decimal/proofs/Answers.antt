@@ -8,9 +8,9 @@ use lib.Seq.{length-take-le}
 use lib.Ieee.{Float, nan, inf, fin, lt, isNan, ofBits}
 use Rattle.math.specs.Rounded.{zeroF}
 use Rattle.math.specs.Range.{isFinite}
-use Rattle.decimal.specs.declared.printing.Text.{Text}
+use Rattle.decimal.specs.declared.spelling.Text.{Text}
 use Rattle.decimal.specs.Printing.{textOf, signText, padded, Shows}
-use Rattle.decimal.proofs.Spelling.{text-kept, text-counts}
+use Rattle.decimal.proofs.Texts.{text-kept, text-counts}
 
 pub answered : (t : Text) (s : List ℕ) → Shows t s
     → (take (t .length) (t .bytes) ≡ s) × (Shows t s × ((t .length ≤ length (t .bytes)) × (t .length ≡ length (take (t .length) (t .bytes)))))

@@ -1,14 +1,14 @@
 pub mod Answers
 pub mod Close
-pub mod Doubling
 mod Examples
 pub mod Fewest
 pub mod Fractions
 pub mod Heard
 pub mod Patterns
 pub mod Places
+pub mod Powers
 pub mod Printed
 pub mod ReadsBack
 pub mod Scanning
 pub mod Sizes
-pub mod Spelling
+pub mod Texts

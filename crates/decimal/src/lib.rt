@@ -3,8 +3,9 @@ mod nearest;
 mod printing;
 mod reading;
 mod scan;
+mod spelling;
 
-pub use printing::Text;
 pub use printing::text_of;
 pub use reading::Decimal;
 pub use reading::read;
+pub use spelling::Text;
