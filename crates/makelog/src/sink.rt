@@ -101,12 +101,9 @@ fn drop_times(fd: i32, buffer: &mut [u8; 65536], first: Sink, times: u32) -> Sin
     while i < many {
         let t = put(buffer, s, Event::Pause);
         let kept = keep_last(buffer, t.written);
-        s = Sink {
-            written: kept,
-            fresh: kept,
-            records: s.records,
-            failed: t.failed,
-        };
+        s.written = kept;
+        s.fresh = kept;
+        s.failed = t.failed;
         i += 1;
     }
     s
