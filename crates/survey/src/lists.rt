@@ -77,12 +77,14 @@ fn with_one(list: [Seen; 20], count: u64, one: Seen) -> [Seen; 20] {
 fn with_most(list: [Seen; 5], one: Seen) -> [Seen; 5] {
     let mut next = list;
     let mut moving = one;
+    let mut found = false;
     let mut i: usize = 0;
     while i < 5 {
         let here = next[i];
-        if moving.folds > here.folds {
+        if found | (moving.folds > here.folds) {
             next[i] = moving;
             moving = here;
+            found = true;
         }
         i += 1;
     }

@@ -85,6 +85,17 @@ fn counted(k: Counts, gap: u16, made: u64) -> Counts
     }
 }
 
+// Whether a list changes by a record. The lists are long, and a record that changes none is quick.
+fn is_listed(gap: u16, made: u64, least: u64, counts: Counts) -> bool {
+    if made > least {
+        return true;
+    }
+    if (made > 1) & (counts.many < 20) {
+        return true;
+    }
+    (gap > 0) & ((counts.gaps < 20) | (counts.repeats < 20))
+}
+
 // Goes on with the whole records that follow, up to one that is refused.
 pub fn survey_on(first: Survey, records: &[u8]) -> Survey
     ensures reached { λ r. ⌜ r .reached ≡ surveyOf (recordsOf (now (records .entry))) (first .reached) (first .counts) .replay ⌝ }
@@ -100,7 +111,7 @@ pub fn survey_on(first: Survey, records: &[u8]) -> Survey
         match hear(reached, bytes) {
             Heard::Goes(gap, next) => {
                 let made = rise(reached.folds, next.folds);
-                if (gap > 0) | (made > 1) | (made > lists.least) {
+                if is_listed(gap, made, lists.least, counts) {
                     let last = reached.last;
                     let one = seen_at(counts.records, bytes, last, gap, made);
                     let longer = noted(lists, counts, one);

@@ -5,10 +5,10 @@ use Rattle.survey.proofs.lists.with_most.Statement.{statement}
 use Rattle.survey.proofs.lists.with_most.Tie as tie
 
 abbrev Inv-loop : tie.InvT-loop
-Inv-loop next₀ moving₀ i₀ next moving i = i ≤ 5
+Inv-loop next₀ moving₀ found₀ i₀ next moving found i = i ≤ 5
 
 abbrev μ-loop : tie.MeasureT-loop
-μ-loop next₀ moving₀ i₀ next moving i = 5 - i
+μ-loop next₀ moving₀ found₀ i₀ next moving found i = 5 - i
 
 pub with-most-spec : {M : Type 1} → statement M
 with-most-spec =

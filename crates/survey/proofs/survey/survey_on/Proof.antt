@@ -31,6 +31,7 @@ survey-on-spec =
     (λ c κs. search needs)
     (λ c κs. search needs)
     (λ c κs. search needs)
+    (λ c κs. search needs)
     (λ c. omega (arith, c .before .before .before .before .before .before .before .before .before .loop-test .taken, c .before .before .before .before .before .before .before .before .before .before .before .before .before .before .before .good .1 .0 .0))
     (λ c. omega (arith, c .before .before .before .before .before .before .before .before .before .loop-test .taken))
     (λ c. rw (c .counted .ensures, c .before .before .before .rise .ensures) (goes-on _ _ _ _ _ _ (c .before .before .before .before .before .before .before .before .before .before .loop .inv) _ _ (c .before .before .before .before .before .before .before .before .before .loop-test .taken) (heard-as _ _ _ _ _ _ (c .before .before .before .before .before .before .before .before .record-at .ensures) refl (c .before .before .before .before .before .before .before .hear .ensures) (c .before .before .before .before .before .gap .given .1))))
