@@ -41,18 +41,15 @@ fn step_order(text: &[u8], place: usize) -> Order {
     }
 }
 
-fn drop_order(text: &[u8], place: usize) -> Order {
+fn number_order(text: &[u8], place: usize, drops: bool) -> Order {
     let word = lines::word_behind(text, place);
     match lines::count(text, word) {
-        Counted::Number(n) => ending(Order::Drop(n), text, word.to),
-        Counted::Wrong => Order::Wrong(word, Expected::Count),
-    }
-}
-
-fn repeat_order(text: &[u8], place: usize) -> Order {
-    let word = lines::word_behind(text, place);
-    match lines::count(text, word) {
-        Counted::Number(n) => ending(Order::Repeat(n), text, word.to),
+        Counted::Number(n) => {
+            if drops {
+                return ending(Order::Drop(n), text, word.to);
+            }
+            ending(Order::Repeat(n), text, word.to)
+        }
         Counted::Wrong => Order::Wrong(word, Expected::Count),
     }
 }
@@ -76,10 +73,10 @@ pub fn order_at(text: &[u8], place: usize) -> Order {
         return ending(Order::Write(Event::Reset, 1), text, word.to);
     }
     if lines::is_name(text, word, *b"drop                ") {
-        return drop_order(text, word.to);
+        return number_order(text, word.to, true);
     }
     if lines::is_name(text, word, *b"repeat              ") {
-        return repeat_order(text, word.to);
+        return number_order(text, word.to, false);
     }
     Order::Wrong(word, Expected::Event)
 }

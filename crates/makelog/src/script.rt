@@ -31,7 +31,8 @@ fn refusal_of(event: Event) -> u32 {
     }
 }
 
-fn taken(order: Order, place: usize, behind: bool) -> Line {
+// word is the first of the line.
+fn taken(order: Order, word: Word, behind: bool) -> Line {
     match order {
         Order::Nothing => Line::Taken(behind),
         Order::Write(event, times) => {
@@ -46,13 +47,7 @@ fn taken(order: Order, place: usize, behind: bool) -> Line {
             if behind {
                 return Line::Taken(true);
             }
-            Line::Wrong(
-                Word {
-                    from: place,
-                    to: place,
-                },
-                Expected::RecordBefore,
-            )
+            Line::Wrong(word, Expected::RecordBefore)
         }
         Order::Wrong(found, expected) => Line::Wrong(found, expected),
     }
@@ -71,7 +66,8 @@ pub fn judge(text: &[u8]) -> Judged {
     let mut line: u64 = 1;
     let mut at: usize = 0;
     while at < text.len() {
-        match taken(order_at(text, at), at, behind) {
+        let word = lines::word_behind(text, at);
+        match taken(order_at(text, at), word, behind) {
             Line::Taken(b) => {
                 behind = b;
                 at = lines::line_behind(text, at);
