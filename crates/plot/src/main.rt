@@ -1,0 +1,58 @@
+// A ramp as a picture, in SVG on standard output.
+//
+//     plot RAMP LOG     the setpoint over time, as the replay of the log gives it
+//     plot RAMP         the ramp alone
+mod alone;
+mod axis;
+mod columns;
+mod course;
+mod curve;
+mod field;
+mod frame;
+mod labels;
+mod log;
+mod marks;
+mod numbers;
+mod picture;
+mod refusing;
+mod svg;
+mod ticks;
+mod title;
+
+use libc::STDERR_FILENO;
+use tools::RampRead;
+use tween::Tween;
+
+const USAGE: [u8; 23] = *b"usage: plot RAMP [LOG]\n";
+
+// Draws the log that the second argument names, or the ramp alone.
+fn draw(t: Tween) {
+    if os::arg_count() < 3 {
+        alone::draw_alone(t);
+        return;
+    }
+    let fd = tools::open_argument(2, &USAGE);
+    if fd < 0 {
+        refusing::end_unreadable();
+        return;
+    }
+    log::draw_log(fd, t);
+    libc::close(fd);
+}
+
+fn main() {
+    if os::arg_count() > 3 {
+        tools::say(STDERR_FILENO, &USAGE);
+        refusing::end_unreadable();
+        return;
+    }
+    let RampRead::Ramp(t) = tools::read_ramp(1, &USAGE) else {
+        refusing::end_unreadable();
+        return;
+    };
+    if !tween::within(t) {
+        refusing::refuse(1, 4);
+        return;
+    }
+    draw(t);
+}
