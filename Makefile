@@ -1,12 +1,16 @@
-.PHONY: run test lib curves compare exhaustive power list bench
+.PHONY: run test programs lib curves compare damage exhaustive power list bench
 
-# The worked examples, and a ramp sampled to a table.
+# The auditor's question, on an example.
 run:
 	@bash scripts/run
 
 # Prove and test everything, from nothing.
 test:
 	@bash scripts/test
+
+# The programs that bin/ runs: audit, makelog, plot.
+programs:
+	@bash scripts/programs
 
 # The C interface as an archive.
 lib:
@@ -19,6 +23,10 @@ curves: lib
 # Random inputs against the Rust, some minutes.
 compare: lib
 	@compare/run random
+
+# Damaged logs through audit, held against a reader of their own, some minutes.
+damage: lib programs
+	@compare/run audit
 
 # Every f32 from 0 to 1 for each easing, against the Rust. It goes on where it was stopped.
 exhaustive: lib
