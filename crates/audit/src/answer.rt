@@ -17,16 +17,35 @@ fn before_first(first: u32) {
     line(b" and not 0: what came before it is not in this log");
 }
 
-pub fn answers(lists: Lists, counts: Counts, first: u32) {
+// What was not found, and how far that holds.
+fn none(text: &[u8], stopped: bool) {
+    say(1, text);
+    if stopped {
+        line(b", up to where the replay stopped");
+    } else {
+        line(b"");
+    }
+}
+
+pub fn answers(lists: Lists, counts: Counts, first: u32, stopped: bool) {
+    if counts.records == 0 {
+        none(b"answer no record was replayed", stopped);
+        return;
+    }
     if counts.many == 0 {
-        line(b"answer no update made more than one pass");
+        none(b"answer no update made more than one pass", stopped);
     }
     let many = lists.many;
     list_lines(Line::Made, many, counts.many);
     before_first(first);
     if counts.gaps == 0 {
-        line(b"answer no record is missing between the first and the last");
+        none(
+            b"answer no record is missing between the first and the last",
+            stopped,
+        );
+        return;
     }
     let gaps = lists.gaps;
     list_lines(Line::Missing, gaps, counts.gaps);
+    line(b"answer behind a gap the tween and its folds are those of the records that are there");
 }

@@ -22,11 +22,11 @@ pub fn end_refused(number: u32) {
 }
 
 fn most_line(one: Seen) {
-    say(1, b"most ");
+    say(1, b"most folds ");
     say_number(1, one.folds);
-    say(1, b" by record ");
+    say(1, b", record ");
     say_number(1, one.place);
-    float_line(b", a step of ", one.step);
+    float_line(b", step ", one.step);
 }
 
 fn most_lines(list: [Seen; 5]) {
@@ -132,6 +132,6 @@ pub fn all(w: Walk) {
     lists_lines(lists, counts, reached);
     stopped_line(counts.records, s.refused);
     tween_lines(t);
-    answers(lists, counts, w.first);
+    answers(lists, counts, w.first, s.refused != 0);
     end_line(s.refused, counts, w.failed);
 }
