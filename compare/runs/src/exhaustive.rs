@@ -4,7 +4,7 @@ use crate::compared;
 use crate::cores::on_all_cores;
 use crate::difference::same;
 use crate::ffi::lax_easing_apply;
-use crate::meaning;
+use crate::meaning::{self, name};
 use crate::rules::is_one_of_twelve;
 use crate::search;
 use crate::subjects::found;
@@ -45,11 +45,6 @@ fn agrees(easing: &Easing) -> bool {
         show(easing, first);
     }
     first == u32::MAX
-}
-
-fn name(easing: &Easing) -> String {
-    let shown = format!("{easing:?}");
-    shown.split(|c: char| !c.is_alphanumeric()).next().unwrap_or_default().to_string()
 }
 
 fn note(line: &str) {

@@ -1,4 +1,5 @@
 //! The proved library held against animato's Rust. See compare/README.md.
+mod audit;
 mod cores;
 mod difference;
 mod edges;
@@ -10,6 +11,7 @@ mod list;
 mod log;
 mod make;
 mod meaning;
+mod parts;
 mod power;
 mod random;
 mod replay;
@@ -30,7 +32,8 @@ const USAGE: &str = "compare short [--only replays]
 compare random [--seed S] [--count CASES] [--only replays]
 compare exhaustive [--kind KIND]
 compare power [--only PLACE]
-compare list FILE";
+compare list FILE
+compare audit [--short] [--seed S] [--count LOGS]";
 
 /// The cases of the short run, and of the random run where no count is given.
 const SHORT: u64 = 400_000;
@@ -45,12 +48,19 @@ fn main() -> ExitCode {
     let agreed = match arguments.first().map(String::as_str) {
         Some("short") => cases(SHORT, None, only).map(|cases| random_run(1, cases)),
         Some("random") => {
-            let seed = option(&arguments, "--seed").unwrap_or_else(seed_of_clock);
+            let seed = seed(&arguments);
             cases(RANDOM, option(&arguments, "--count"), only).map(|cases| random_run(seed, cases))
         }
         Some("exhaustive") => Some(exhaustive::run(text_option(&arguments, "--kind"))),
         Some("power") => Some(power::run(option(&arguments, "--only"))),
         Some("list") => arguments.get(1).map(|file| list::run(file)),
+        Some("audit") if arguments.iter().any(|argument| argument == "--short") => {
+            Some(audit::run(1, audit::SHORT))
+        }
+        Some("audit") => {
+            let logs = option(&arguments, "--count").unwrap_or(audit::LONG);
+            Some(audit::run(seed(&arguments), logs))
+        }
         _ => None,
     };
     match agreed {
@@ -108,6 +118,11 @@ fn text_option<'a>(arguments: &'a [String], name: &str) -> Option<&'a str> {
 
 fn option(arguments: &[String], name: &str) -> Option<u64> {
     text_option(arguments, name)?.parse().ok()
+}
+
+/// Another one each time, where none is given.
+fn seed(arguments: &[String]) -> u64 {
+    option(arguments, "--seed").unwrap_or_else(seed_of_clock)
 }
 
 fn seed_of_clock() -> u64 {

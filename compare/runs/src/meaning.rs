@@ -2,7 +2,14 @@
 use crate::rules::*;
 use crate::words::*;
 use oracle::{Easing, Keyframe, KeyframeTrack, Loop, Tween, TweenState};
+use std::fmt::Debug;
 use std::mem::discriminant;
+
+/// Of a kind, a mode or a state, without its parameters.
+pub fn name(meant: &impl Debug) -> String {
+    let shown = format!("{meant:?}");
+    shown.split(|c: char| !c.is_alphanumeric()).next().unwrap_or_default().to_string()
+}
 
 /// A kind's number is its place among the named ones.
 pub fn easing(w: &LaxEasing) -> Easing {

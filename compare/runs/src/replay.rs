@@ -54,7 +54,7 @@ fn read(reached: LaxReplay, records: &[u8], gaps: &mut [u16]) -> LaxReplayed {
 }
 
 /// What is missing before a record, and where the replay is behind it; or why it is refused.
-fn heard(before: &LaxReplay, record: &[u8]) -> Result<(u16, LaxReplay), u32> {
+pub fn heard(before: &LaxReplay, record: &[u8]) -> Result<(u16, LaxReplay), u32> {
     let entry = read_record(record).ok_or(WRONG_RECORD)?;
     let gap = gap(before.last, entry.number);
     if gap == REPEAT {

@@ -1,12 +1,10 @@
 //! Tries inputs, counts them, and stops at the first that shows a difference.
-use crate::cores::on_all_cores;
 use crate::difference::Difference;
 use crate::headings::headings;
 use crate::input::{After, Input};
+use crate::parts::in_parts;
 use crate::shrink::shrink;
 use crate::tally::Tally;
-use std::sync::Mutex;
-use std::sync::atomic::{AtomicU64, Ordering::Relaxed};
 
 pub struct Found {
     input: Input,
@@ -36,16 +34,14 @@ impl Runner {
     }
 }
 
-/// Runs the parts on all cores, shows how far it is, prints what was tried, and says whether all agreed.
+/// Runs the parts on all cores, prints what was tried, and says whether all agreed.
 pub fn run(parts: u64, part: impl Fn(u64, &mut Runner) -> Tried<()> + Sync) -> bool {
-    let next = AtomicU64::new(0);
-    let whole = Mutex::new((Tally::default(), None));
-    let progress = |seconds| {
-        let inputs = whole.lock().unwrap().0.inputs;
-        eprintln!("{seconds} s: part {} of {parts}, {inputs} inputs", next.load(Relaxed).min(parts));
-    };
-    on_all_cores(|| work(parts, &next, &whole, &part), progress);
-    let (tally, found) = whole.into_inner().unwrap();
+    let (tally, found) = in_parts(parts, |place, tally| {
+        let mut runner = Runner::default();
+        let tried = part(place, &mut runner);
+        tally.add(runner.tally);
+        tried
+    });
     println!("{tally}");
     let agreed = found.is_none();
     if let Some(found) = found {
@@ -54,25 +50,6 @@ pub fn run(parts: u64, part: impl Fn(u64, &mut Runner) -> Tried<()> + Sync) -> b
     let differences = if agreed { "0 differences" } else { "1 difference, and stopped there" };
     println!("compare: {} inputs, {differences}", tally.inputs);
     agreed
-}
-
-type Whole = Mutex<(Tally, Option<Box<Found>>)>;
-
-fn work(parts: u64, next: &AtomicU64, whole: &Whole, part: &impl Fn(u64, &mut Runner) -> Tried<()>) {
-    loop {
-        let place = next.fetch_add(1, Relaxed);
-        if place >= parts {
-            return;
-        }
-        let mut runner = Runner::default();
-        let tried = part(place, &mut runner);
-        let mut whole = whole.lock().unwrap();
-        whole.0.add(runner.tally);
-        if let Err(found) = tried {
-            whole.1.get_or_insert(found);
-            next.store(parts, Relaxed);
-        }
-    }
 }
 
 fn report(found: Found) {

@@ -2,12 +2,14 @@
 mod easings;
 mod floats;
 mod logs;
+mod ramps;
 mod replays;
 mod tracks;
 mod tweens;
 
 pub use floats::EDGES;
 pub use logs::{LAST_NUMBERS, Log};
+pub use ramps::RampLog;
 pub use replays::{WRITTEN, set_bits, set_number, written};
 pub use tracks::FRAME_COUNTS;
 

@@ -57,6 +57,10 @@ impl Maker {
     /// Up to 40 events, each of which the tween accepts as a rule; one in 40 has some hundreds.
     pub fn calls(&mut self, t: &LaxTween) -> Vec<LaxEvent> {
         let count = if self.once_in(40) { 100 + self.below(300) } else { self.below(41) };
+        self.calls_of(t, count)
+    }
+
+    pub fn calls_of(&mut self, t: &LaxTween, count: u32) -> Vec<LaxEvent> {
         let refusals = self.once_in(3);
         let (mut tween, mut events) = (*t, Vec::new());
         for _ in 0..count {
@@ -116,7 +120,7 @@ impl Maker {
     }
 
     /// One of so many places.
-    fn place(&mut self, count: usize) -> usize {
+    pub(super) fn place(&mut self, count: usize) -> usize {
         self.below(count as u32) as usize
     }
 

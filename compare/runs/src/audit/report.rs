@@ -1,0 +1,176 @@
+//! The report that the program has to print.
+use super::decimal::shown;
+use super::ramp::settings;
+use super::survey::{Seen, Survey, survey};
+use crate::log::HEAD;
+use crate::meaning::{self, name};
+use crate::rules;
+use crate::subjects::TweenCall;
+use crate::words::LaxTween;
+use std::cmp::Reverse;
+
+/// How many records of a kind are listed.
+const LISTED: usize = 20;
+const MOST: usize = 5;
+const REPEAT: u16 = 65_535;
+
+/// With the number of the refusal, 0 for none. Of a pipe the length is not known: a cut record is then
+/// refused behind the others, and not before them.
+pub fn report(t: &LaxTween, log: &[u8], piped: bool) -> (String, u32) {
+    let ramp = settings(t, shown).map(|(name, value)| format!("ramp {name} {value}")).to_vec();
+    let whole = if piped { &log[..log.len() - log.len().saturating_sub(HEAD) % 8] } else { log };
+    let (lines, number) = match rules::replay_refused(t, whole, usize::MAX) {
+        0 => {
+            let found = survey(t, &log[HEAD..]);
+            (found.lines(), found.refused)
+        }
+        number => (vec![format!("refused {}", reason(number)), format!("end refused {number}")], number),
+    };
+    ([ramp, lines].concat().iter().map(|line| format!("{line}\n")).collect(), number)
+}
+
+impl Survey {
+    fn lines(&self) -> Vec<String> {
+        let [gaps, repeats, many] = [
+            self.of(|one| one.gap > 0 && one.gap != REPEAT),
+            self.of(|one| one.gap == REPEAT),
+            self.of(|one| one.folds > 1),
+        ];
+        [
+            self.records(),
+            listed(&gaps, gap_line, "gap and more such records"),
+            vec![format!("gaps {}", gaps.len()), format!("missing {}", self.reached.missing)],
+            listed(&repeats, repeat_line, "repeat and more such records"),
+            vec![format!("repeats {}", repeats.len()), format!("folds {}", self.reached.folds)],
+            self.most(),
+            self.stopped(),
+            tween_lines(&self.reached.tween),
+            self.answers(&many, &gaps),
+            vec![self.end(gaps.len(), repeats.len())],
+        ]
+        .concat()
+    }
+
+    fn of(&self, is: fn(&Seen) -> bool) -> Vec<&Seen> {
+        self.seen.iter().filter(|one| is(one)).collect()
+    }
+
+    /// The number of the last record is 0 where none was read.
+    fn records(&self) -> Vec<String> {
+        let last = self.seen.last().map_or(0, |one| one.number);
+        let numbers = self.first.map(|first| format!("numbers {first} to {last}"));
+        [format!("records {}", self.seen.len())].into_iter().chain(numbers).collect()
+    }
+
+    /// Of equals the earlier comes first.
+    fn most(&self) -> Vec<String> {
+        let mut most = self.of(|one| one.folds > 0);
+        most.sort_by_key(|one| Reverse(one.folds));
+        let line =
+            |one: &&Seen| format!("most folds {}, record {}, step {}", one.folds, one.place, shown(one.step));
+        most.iter().take(MOST).map(line).collect()
+    }
+
+    fn stopped(&self) -> Vec<String> {
+        let line = format!("stopped at record {}: {}", self.seen.len(), reason(self.refused));
+        said_where(self.refused != 0, &line)
+    }
+
+    fn answers(&self, many: &[&Seen], gaps: &[&Seen]) -> Vec<String> {
+        if self.seen.is_empty() {
+            return self.none(true, "no record was replayed");
+        }
+        let behind = "answer behind a gap the tween and its folds are those of the records that are there";
+        [
+            self.none(many.is_empty(), "no update made more than one pass"),
+            listed(many, made_line, "answer and more such updates, whose passes were made"),
+            self.before_first(),
+            self.none(gaps.is_empty(), "no record is missing between the first and the last"),
+            listed(gaps, missing_line, "answer and more such gaps, of which nothing can be known"),
+            said_where(!gaps.is_empty(), behind),
+        ]
+        .concat()
+    }
+
+    /// What was not found, and how far that holds.
+    fn none(&self, holds: bool, what: &str) -> Vec<String> {
+        let until = if self.refused == 0 { "" } else { ", up to where the replay stopped" };
+        said_where(holds, &format!("answer {what}{until}"))
+    }
+
+    fn before_first(&self) -> Vec<String> {
+        let first = self.first.unwrap_or(0);
+        let line = format!(
+            "answer the first record has the number {first} and not 0: what came before it is not in this log"
+        );
+        said_where(first != 0, &line)
+    }
+
+    fn end(&self, gaps: usize, repeats: usize) -> String {
+        match (self.refused, gaps, repeats) {
+            (0, 0, 0) => "end ok".into(),
+            (0, ..) => format!("end gaps {gaps} repeats {repeats}"),
+            (number, ..) => format!("end refused {number}"),
+        }
+    }
+}
+
+fn said_where(holds: bool, line: &str) -> Vec<String> {
+    if holds { vec![line.into()] } else { Vec::new() }
+}
+
+fn listed(all: &[&Seen], line: fn(&Seen) -> String, more: &str) -> Vec<String> {
+    let rest = all.len().saturating_sub(LISTED);
+    let lines = all.iter().take(LISTED).map(|one| line(one));
+    lines.chain(said_where(rest > 0, &format!("{more}: {rest}"))).collect()
+}
+
+fn gap_line(one: &Seen) -> String {
+    let Seen { gap, place, number, last, .. } = one;
+    format!("gap {gap} missing before record {place}: number {number} follows {last}")
+}
+
+fn repeat_line(one: &Seen) -> String {
+    format!("repeat record {}: again number {}", one.place, one.number)
+}
+
+fn made_line(one: &Seen) -> String {
+    let Seen { folds, place, step, .. } = one;
+    format!("answer the {folds} passes of record {place} were made, by its step of {} s", shown(*step))
+}
+
+fn missing_line(one: &Seen) -> String {
+    let records = if one.gap == 1 { "record is" } else { "records are" };
+    let what = format!("{} {records} missing before record {}", one.gap, one.place);
+    format!("answer {what}: what was done there can't be known")
+}
+
+/// A zero of either sign is 0.
+fn tween_lines(t: &LaxTween) -> Vec<String> {
+    let float = |x: f32| if x == 0.0 { "0".into() } else { shown(x) };
+    let value = TweenCall::Value.read(t);
+    let value = if value.number == 0 { float(value.value) } else { format!("refused {}", value.number) };
+    vec![
+        format!("tween state {}", name(meaning::tween(t).state())),
+        format!("tween elapsed {}", float(t.elapsed)),
+        format!("tween delay_elapsed {}", float(t.delay_elapsed)),
+        format!("tween loop_count {}", t.loop_count),
+        format!("tween reversed {}", if t.ping_pong_reverse == 0 { "no" } else { "yes" }),
+        format!("tween value {value}"),
+    ]
+}
+
+fn reason(number: u32) -> String {
+    let (name, why) = match number {
+        4 => ("RecordBreaksLimit", "the ramp, or the tween on the way, breaks a limit"),
+        5 => ("StepTooLong", "the step is above 16777216 s"),
+        6 => ("StepLost", "the step is above 0, and the sum does not show it"),
+        7 => ("TooManyFolds", "the step needs more than 4096 folds"),
+        15 => ("WrongMark", "the log does not begin with PEL"),
+        16 => ("UnknownVersion", "the log's version is not 1"),
+        17 => ("WrongLength", "the log is cut within a record"),
+        18 => ("WrongRecord", "the record's kind, zero byte or step is wrong"),
+        _ => ("", ""),
+    };
+    format!("{number} {name}: {why}")
+}
