@@ -40,19 +40,15 @@ fn most_lines(list: [Seen; 5]) {
     }
 }
 
-fn last_number(last: Last) -> u32 {
-    match last {
-        Last::Number(n) => n as u32,
-        Last::Unread => 0,
-    }
-}
-
 fn records_lines(records: u64, first: u32, last: Last) {
     number_line(b"records ", records);
-    if first < 65536 {
-        say(1, b"numbers ");
-        say_number(1, first as u64);
-        number_line(b" to ", last_number(last) as u64);
+    match last {
+        Last::Number(n) => {
+            say(1, b"numbers ");
+            say_number(1, first as u64);
+            number_line(b" to ", n as u64);
+        }
+        Last::Unread => {}
     }
 }
 

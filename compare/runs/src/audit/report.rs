@@ -57,8 +57,8 @@ impl Survey {
 
     /// The number of the last record is 0 where none was read.
     fn records(&self) -> Vec<String> {
-        let last = self.seen.last().map_or(0, |one| one.number);
-        let numbers = self.first.map(|first| format!("numbers {first} to {last}"));
+        let ends = self.first.zip(self.seen.last());
+        let numbers = ends.map(|(first, last)| format!("numbers {first} to {}", last.number));
         [format!("records {}", self.seen.len())].into_iter().chain(numbers).collect()
     }
 
