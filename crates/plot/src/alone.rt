@@ -1,12 +1,12 @@
 // The ramp alone, by steps of a column each.
-use crate::columns::Table;
-use crate::columns::note;
-use crate::course::Course;
-use crate::course::begin;
-use crate::course::stepped;
-use crate::frame::Frame;
-use crate::frame::frame_of;
-use crate::picture::picture_of_ramp;
+use drawing::columns::Table;
+use drawing::columns::note;
+use drawing::course::Course;
+use drawing::course::begin;
+use drawing::course::stepped;
+use drawing::frame::Frame;
+use drawing::frame::frame_of;
+use drawing::picture::picture_of_ramp;
 use loop_mode::PassLimit;
 use tween::Tween;
 

@@ -1,15 +1,15 @@
 // The log, gone over twice: for what it holds, and to draw it.
-use crate::columns::Table;
-use crate::columns::note;
-use crate::course::Course;
-use crate::course::begin;
-use crate::course::heard;
-use crate::frame::Frame;
-use crate::frame::frame_of;
-use crate::picture::picture_of_log;
 use crate::refusing::end_unreadable;
 use crate::refusing::refuse;
 use crate::refusing::unread;
+use drawing::columns::Table;
+use drawing::columns::note;
+use drawing::course::Course;
+use drawing::course::begin;
+use drawing::course::heard;
+use drawing::frame::Frame;
+use drawing::frame::frame_of;
+use drawing::picture::picture_of_log;
 use event_log::has_mark;
 use event_log::has_version;
 use libc::STDERR_FILENO;

@@ -3,21 +3,8 @@
 //     plot RAMP LOG     the setpoint over time, as the replay of the log gives it
 //     plot RAMP         the ramp alone
 mod alone;
-mod axis;
-mod columns;
-mod course;
-mod curve;
-mod field;
-mod frame;
-mod labels;
 mod log;
-mod marks;
-mod numbers;
-mod picture;
 mod refusing;
-mod svg;
-mod ticks;
-mod title;
 
 use libc::STDERR_FILENO;
 use tools::RampRead;
