@@ -1,4 +1,5 @@
 // A whole ramp.
+ghost use Rattle.ramp.specs.Ramps.{IsReset};
 use crate::settings::DURATION;
 use crate::settings::END;
 use crate::settings::START;
@@ -8,6 +9,7 @@ use crate::settings::setting_named;
 use lines::Expected;
 use lines::Fault;
 use lines::Word;
+use tween::Changed;
 use tween::Tween;
 use words::LaxTween;
 use words::TweenRead;
@@ -48,7 +50,9 @@ fn line_taken(t: LaxTween, given: u32, text: &[u8], place: usize) -> Line {
     }
 }
 
-fn wrong(line: u64, found: Word, expected: Expected) -> Parsed {
+fn wrong(line: u64, found: Word, expected: Expected) -> Parsed
+    ensures { λ r. ⌜ IsReset r ⌝ }
+{
     Parsed::Wrong(Fault {
         line,
         found,
@@ -56,20 +60,26 @@ fn wrong(line: u64, found: Word, expected: Expected) -> Parsed {
     })
 }
 
-// Running, or Idle where there is a delay.
-fn reset(t: LaxTween) -> Parsed {
-    let mut w = t;
-    if t.delay > 0.0 {
-        w.state = 0;
-    }
-    match words::tween_of(w) {
-        TweenRead::Known(tween) => Parsed::Ramp(tween),
+// A ramp that breaks a limit is handed on as it is: every call refuses it.
+fn reset(t: LaxTween) -> Parsed
+    ensures { λ r. ⌜ IsReset r ⌝ }
+{
+    match words::tween_of(t) {
+        TweenRead::Known(tween) => match tween.reset() {
+            Changed::Done(u) => Parsed::Ramp(u),
+            Changed::Refused {
+                tween: same,
+                refusal: _,
+            } => Parsed::Ramp(same),
+        },
         TweenRead::Unknown => wrong(0, Word { from: 0, to: 0 }, Expected::Setting),
     }
 }
 
 // The text is at its end: what has to be given was given.
-fn ended(t: LaxTween, given: u32, line: u64, end: usize) -> Parsed {
+fn ended(t: LaxTween, given: u32, line: u64, end: usize) -> Parsed
+    ensures { λ r. ⌜ IsReset r ⌝ }
+{
     let nothing = Word { from: end, to: end };
     if given & START == 0 {
         return wrong(line, nothing, Expected::Start);
@@ -84,7 +94,9 @@ fn ended(t: LaxTween, given: u32, line: u64, end: usize) -> Parsed {
 }
 
 // start, end and duration have to be given; delay is 0 otherwise, scale 1, mode Once and easing Linear.
-pub fn parse_ramp(text: &[u8]) -> Parsed {
+pub fn parse_ramp(text: &[u8]) -> Parsed
+    ensures { λ r. ⌜ IsReset r ⌝ }
+{
     let mut t = words::tween_words(Tween::new(0.0, 0.0));
     let mut given: u32 = 0;
     let mut line: u64 = 1;
