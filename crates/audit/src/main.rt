@@ -10,15 +10,17 @@
 //     end refused N
 //     end unreadable
 mod answer;
-mod head;
 mod listed;
 mod put;
 mod report;
 mod walk;
 
-use head::Head;
+use libc::STDERR_FILENO;
 use put::line;
+use tools::Head;
 use tools::RampRead;
+use tools::end_refused;
+use tools::end_unreadable;
 use tween::Tween;
 
 // A refusal before any record is replayed.
@@ -26,27 +28,32 @@ fn refused(number: u32) {
     tools::say(1, b"refused ");
     tools::say_refusal(1, number);
     line(b"");
-    report::end_refused(number);
+    end_refused(number);
 }
 
 // The log on an open file.
 fn audit(fd: i32, t: Tween) {
     let length = tools::length_of(fd);
-    match head::read_head(fd, length) {
+    match tools::read_head(fd, 2, length) {
         Head::Whole => report::all(walk::all(fd, t, length)),
         Head::Refused(number) => refused(number),
-        Head::Unreadable => line(b"end unreadable"),
+        Head::Empty => {
+            tools::say_argument(STDERR_FILENO, 2);
+            tools::say(STDERR_FILENO, b": the log is empty\n");
+            refused(15);
+        }
+        Head::Unreadable => end_unreadable(),
     }
 }
 
 fn main() {
     let RampRead::Ramp(t) = tools::read_ramp(1, b"usage: audit RAMP LOG\n") else {
-        line(b"end unreadable");
+        end_unreadable();
         return;
     };
     let fd = tools::open_argument(2, b"usage: audit RAMP LOG\n");
     if fd < 0 {
-        line(b"end unreadable");
+        end_unreadable();
         return;
     }
     tools::say_ramp(1, t);

@@ -17,10 +17,6 @@ use tools::say;
 use tools::say_number;
 use tween::Tween;
 
-pub fn end_refused(number: u32) {
-    number_line(b"end refused ", number as u64);
-}
-
 fn most_line(one: Seen) {
     say(1, b"most folds ");
     say_number(1, one.folds);
@@ -101,11 +97,11 @@ fn tween_lines(t: Tween) {
 
 fn end_line(refused: u32, counts: Counts, failed: bool) {
     if failed {
-        line(b"end unreadable");
+        tools::end_unreadable();
         return;
     }
     if refused != 0 {
-        end_refused(refused);
+        tools::end_refused(refused);
         return;
     }
     if (counts.gaps == 0) & (counts.repeats == 0) {

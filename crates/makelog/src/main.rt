@@ -23,7 +23,7 @@ use tools::say;
 
 fn wrong(text: &[u8], fault: lines::Fault) {
     tools::say_fault(1, text, fault);
-    say(1, b"end unreadable\n");
+    tools::end_unreadable();
 }
 
 fn refused(line: u64, number: u32) {
@@ -33,9 +33,7 @@ fn refused(line: u64, number: u32) {
     say(STDERR_FILENO, b": refused ");
     tools::say_refusal(STDERR_FILENO, number);
     say(STDERR_FILENO, b"\n");
-    say(1, b"end refused ");
-    tools::say_number(1, number as u64);
-    say(1, b"\n");
+    tools::end_refused(number);
 }
 
 // Opens the log for writing; below 0 where it can't.
@@ -56,7 +54,7 @@ fn opened() -> i32 {
 fn written(text: &[u8]) {
     let fd = opened();
     if fd < 0 {
-        say(1, b"end unreadable\n");
+        tools::end_unreadable();
         return;
     }
     let out = sink::write_log(fd, text);
@@ -64,7 +62,7 @@ fn written(text: &[u8]) {
     if out.failed {
         tools::say_argument(STDERR_FILENO, 2);
         say(STDERR_FILENO, b": the log can't be written\n");
-        say(1, b"end unreadable\n");
+        tools::end_unreadable();
         return;
     }
     say(1, b"records ");
@@ -84,7 +82,7 @@ fn main() {
     let mut text = io::large_buffer();
     let filled = tools::read_text(1, b"usage: makelog SCRIPT LOG\n", &mut text);
     if filled.failed {
-        say(1, b"end unreadable\n");
+        tools::end_unreadable();
         return;
     }
     let length = filled.bytes;

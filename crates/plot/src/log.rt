@@ -1,5 +1,4 @@
 // The log, gone over twice: for what it holds, and to draw it.
-use crate::refusing::end_unreadable;
 use crate::refusing::refuse;
 use crate::refusing::unread;
 use drawing::columns::Table;
@@ -10,11 +9,11 @@ use drawing::course::heard;
 use drawing::frame::Frame;
 use drawing::frame::frame_of;
 use drawing::picture::picture_of_log;
-use event_log::has_mark;
-use event_log::has_version;
 use libc::STDERR_FILENO;
 use reader::record_at;
+use tools::Head;
 use tools::Length;
+use tools::end_unreadable;
 use tween::Tween;
 
 // Over the records of a chunk, until one is refused.
@@ -63,23 +62,6 @@ fn over_chunks(fd: i32, chunks: u64, first: Course, frame: Frame, table: &mut Ta
     c
 }
 
-// The refusal of a head, or 0; 100 where it cannot be read.
-fn head_refused(fd: i32) -> u32 {
-    let mut head = [0u8; 5];
-    let filled = tools::fill_from(fd, 2, &mut head);
-    if filled.failed {
-        return 100;
-    }
-    let length = filled.bytes;
-    if !has_mark(&head[..length]) {
-        return 15;
-    }
-    if !has_version(&head[..length]) {
-        return 16;
-    }
-    0
-}
-
 // Goes over the records, then back to the first to draw them.
 fn draw_chunks(fd: i32, t: Tween, chunks: u64) {
     let mut table = [0u64; 10092];
@@ -104,24 +86,18 @@ fn draw_chunks(fd: i32, t: Tween, chunks: u64) {
 
 // A file of so many bytes.
 fn draw_bytes(fd: i32, t: Tween, length: u64) {
-    let head = head_refused(fd);
-    if head == 100 {
-        end_unreadable();
-        return;
+    match tools::read_head(fd, 2, Length::Bytes(length)) {
+        Head::Whole => {
+            if length < 5 {
+                unread();
+                return;
+            }
+            draw_chunks(fd, t, (length - 5) / 65536 + 1);
+        }
+        Head::Refused(number) => refuse(2, number),
+        Head::Empty => refuse(2, 15),
+        Head::Unreadable => end_unreadable(),
     }
-    if head != 0 {
-        refuse(2, head);
-        return;
-    }
-    if length < 5 {
-        unread();
-        return;
-    }
-    if (length - 5) % 8 != 0 {
-        refuse(2, 17);
-        return;
-    }
-    draw_chunks(fd, t, (length - 5) / 65536 + 1);
 }
 
 // Draws the log on an open file.

@@ -20,7 +20,7 @@ fn draw(t: Tween) {
     }
     let fd = tools::open_argument(2, &USAGE);
     if fd < 0 {
-        refusing::end_unreadable();
+        tools::end_unreadable();
         return;
     }
     log::draw_log(fd, t);
@@ -30,11 +30,11 @@ fn draw(t: Tween) {
 fn main() {
     if os::arg_count() > 3 {
         tools::say(STDERR_FILENO, &USAGE);
-        refusing::end_unreadable();
+        tools::end_unreadable();
         return;
     }
     let RampRead::Ramp(t) = tools::read_ramp(1, &USAGE) else {
-        refusing::end_unreadable();
+        tools::end_unreadable();
         return;
     };
     if !tween::within(t) {

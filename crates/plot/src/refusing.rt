@@ -1,17 +1,11 @@
 // Where there is no picture: a line on standard error that says why, and one on standard output.
 use libc::STDERR_FILENO;
-use libc::STDOUT_FILENO;
-
-// The line for a file that cannot be read, or understood.
-pub fn end_unreadable() {
-    tools::say(STDOUT_FILENO, b"end unreadable\n");
-}
 
 // The log changed while it was read.
 pub fn unread() {
     tools::say_argument(STDERR_FILENO, 2);
     tools::say(STDERR_FILENO, b": cannot be read\n");
-    end_unreadable();
+    tools::end_unreadable();
 }
 
 // A refusal, by its number, of the file that an argument names.
@@ -20,7 +14,5 @@ pub fn refuse(argument: usize, number: u32) {
     tools::say(STDERR_FILENO, b": refused ");
     tools::say_refusal(STDERR_FILENO, number);
     tools::say(STDERR_FILENO, b"\n");
-    tools::say(STDOUT_FILENO, b"end refused ");
-    tools::say_number(STDOUT_FILENO, number as u64);
-    tools::say(STDOUT_FILENO, b"\n");
+    tools::end_refused(number);
 }

@@ -1,9 +1,13 @@
 // What the programs share: files, and lines for a person to read.
+mod ends;
 mod explain;
 mod files;
+mod heads;
 mod ramps;
 mod saying;
 
+pub use ends::end_refused;
+pub use ends::end_unreadable;
 pub use explain::say_fault;
 pub use explain::say_refusal;
 pub use files::Filled;
@@ -14,6 +18,8 @@ pub use files::length_of;
 pub use files::open_argument;
 pub use files::read_text;
 pub use files::say_argument;
+pub use heads::Head;
+pub use heads::read_head;
 pub use ramps::RampRead;
 pub use ramps::read_ramp;
 pub use ramps::say_easing;

@@ -1,13 +1,15 @@
 // The head of a log, and its length where it is a file.
+use crate::files::Length;
+use crate::files::fill_from;
 use event_log::has_mark;
 use event_log::has_version;
-use libc::STDERR_FILENO;
-use tools::Length;
 
 pub enum Head {
     Whole,
     // The number of a refusal.
     Refused(u32),
+    // No byte at all, which is a mark cut short: 15.
+    Empty,
     // Standard error has a line that says why.
     Unreadable,
 }
@@ -38,16 +40,16 @@ fn judged(head: &[u8], length: Length) -> Head {
     Head::Whole
 }
 
-pub fn read_head(fd: i32, length: Length) -> Head {
+// Reads the head of the log that an argument names, from its start.
+pub fn read_head(fd: i32, argument: usize, length: Length) -> Head {
     let mut head = [0u8; 5];
-    let filled = tools::fill_from(fd, 2, &mut head);
+    let filled = fill_from(fd, argument, &mut head);
     if filled.failed {
         return Head::Unreadable;
     }
     let n = filled.bytes;
     if n == 0 {
-        tools::say_argument(STDERR_FILENO, 2);
-        tools::say(STDERR_FILENO, b": the log is empty\n");
+        return Head::Empty;
     }
     judged(&head[..n], length)
 }
