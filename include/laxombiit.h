@@ -24,6 +24,9 @@
 extern "C" {
 #endif
 
+/* The header's version, the programs' and the Rust crate's. */
+#define LAX_VERSION "0.2.0"
+
 /* The numbers of the refusals. */
 enum {
     LAX_OK = 0,
