@@ -1,2 +1,3 @@
 pub mod Number
 pub mod Refusing
+pub mod Single
