@@ -14,10 +14,27 @@ step 9
 resume
 step 3'
 run audit all.txt all.pel
-for easing in 'Steps 4' 'SlowMo 0.5 0.7' 'CustomBounce 0.3' EaseOutBounce; do
-    ramp easing.txt "easing $easing"
-    run audit easing.txt whole.pel
+
+# Every easing by its name and with its parameters, each another value; the twelve are refused.
+log fifth.pel <<<'step 0.2'
+eased() {
+    ramp easing.txt "easing $1"
+    part '^(ramp easing|tween value|refused)' audit easing.txt fifth.pel
+}
+eased Linear
+for family in Quad Cubic Quart Quint Sine Expo Circ Back Elastic Bounce; do
+    for way in In Out InOut; do eased "Ease$way$family"; done
 done
+for easing in 'CubicBezier 0.25 0.1 0.5 0.9' 'Steps 3' 'RoughEase 0.5 8' 'SlowMo 0.25 0.75' 'Wiggle 5' 'CustomBounce 0.3' 'ExpoScale 1 2'; do
+    eased "$easing"
+done
+
+# Every setting given twice.
+for line in 'start 1' 'end 1' 'duration 1' 'delay 1' 'scale 1' 'mode Once' 'easing Linear'; do
+    text twice.txt "$line" 'start 0' 'end 8' 'duration 1' 'delay 0' 'scale 2' 'mode Forever' 'easing Steps 4'
+    run audit twice.txt whole.pel
+done
+
 printf '\tstart 0\r\nend\t8 \r\n\r\nduration 1 # s' >blanks.txt
 run audit blanks.txt whole.pel
 
@@ -40,6 +57,49 @@ run audit thrice.txt ends.pel
 # Lists are cut behind the first 20.
 for k in $(seq 25); do printf 'step %s\ndrop %s\nstep 0.5\nrepeat 1\n' "$k" "$k"; done | log many.pel
 run audit endless.txt many.pel
+for entries in 20 21; do
+    for k in $(seq $entries); do printf 'step 0.25\ndrop 1\n'; done | { cat && echo 'step 0.25'; } | log gaps.pel
+    for k in $(seq $entries); do printf 'step 0.25\nrepeat 1\n'; done | log repeats.pel
+    for k in $(seq $entries); do printf 'step %s\n' $((k + 1)); done | log bursts.pel
+    part '^(gap|repeat|most|answer|end)' audit endless.txt gaps.pel
+    part '^(gap|repeat|most|answer|end)' audit endless.txt repeats.pel
+    part '^(gap|repeat|most|answer|end)' audit endless.txt bursts.pel
+done
+
+# The largest gap that is one.
+log largest.pel <<<'step 0.5
+drop 65534
+step 0.5'
+run audit plain.txt largest.pel
+
+# More than one part of 65,536 bytes: whole, to the last byte of a part, a gap across the cut, a gap behind
+# it, only a repeat behind it, a part of nothing but repeats, a replay that stops there.
+parts() {
+    log parts.pel
+    part '^(records|numbers|gap|missing|repeat|folds|most|stopped|tween|refused|answer|end)' audit endless.txt parts.pel
+}
+parts <<<'step 0.25 20000'
+parts <<<'step 0.25 8192'
+parts <<<'step 0.25 16384'
+printf 'step 0.25 8192\ndrop 3\nstep 0.25 9\n' | parts
+printf 'step 0.25 8193\ndrop 512\nstep 0.25 9000\n' | parts
+printf 'step 0.25 8192\nrepeat 1\n' | parts
+printf 'step 0.25 8190\nrepeat 9000\nstep 3\n' | parts
+printf 'step 0.25 9000\nstep 4097\nstep 1\n' | parts
+printf 'step 0.25 8191\nstep 4097\nstep 1\n' | parts
+
+# A slow pipe: reads that end within a record and within the head, a part that comes in pieces.
+printf 'step 0.25 9000\ndrop 2\nstep 2.5\n' | log slow.pel
+{
+    head -c 2 slow.pel
+    sleep 0.2
+    tail -c +3 slow.pel | head -c 10
+    sleep 0.2
+    tail -c +13 slow.pel | head -c 65530
+    sleep 0.2
+    tail -c +65543 slow.pel
+} | run audit endless.txt /dev/stdin
+head -c -3 slow.pel | part '^(records|stopped|answer|end)' audit endless.txt /dev/stdin
 
 # A replay that stops: its record is damaged, or the tween refuses it.
 log good.pel <<<'step 0.5 8'

@@ -18,6 +18,23 @@ od -An -tx1 -v blanks.pel
 run makelog empty.txt empty.pel
 od -An -tx1 -v empty.pel
 
+# Nothing written, dropped or repeated; a repeat behind a line that drops nothing.
+text nothing.txt 'step 1 0' 'drop 0' 'pause' 'repeat 0' 'drop 0' 'repeat 1' 'step 2' 'drop 65536' 'reset'
+run makelog nothing.txt nothing.pel
+od -An -tx1 -v nothing.pel
+for line in 'step 1 0' 'drop 0'; do
+    text wrong.txt "$line" 'repeat 1'
+    run makelog wrong.txt wrong.pel
+done
+
+# Repeats and drops across the buffer's end.
+text across.txt 'step 0.25 8190' 'repeat 3' 'step 0.5 2' 'drop 2' 'pause' 'repeat 9000' 'resume'
+run makelog across.txt across.pel
+wc -c <across.pel
+cksum <across.pel | cut -d' ' -f1
+tail -c +65518 across.pel | head -c 64 | od -An -tx1 -v
+tail -c 24 across.pel | od -An -tx1 -v
+
 # Longer than the buffer: the numbers go on, and begin again behind 65,535.
 text long.txt 'step 0.25 70000'
 run makelog long.txt long.pel
