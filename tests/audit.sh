@@ -93,9 +93,9 @@ printf 'step 0.25 9000\ndrop 2\nstep 2.5\n' | log slow.pel
 {
     head -c 2 slow.pel
     sleep 0.2
-    tail -c +3 slow.pel | head -c 10
+    head -c 12 slow.pel | tail -c +3
     sleep 0.2
-    tail -c +13 slow.pel | head -c 65530
+    head -c 65542 slow.pel | tail -c +13
     sleep 0.2
     tail -c +65543 slow.pel
 } | run audit endless.txt /dev/stdin

@@ -32,7 +32,7 @@ text across.txt 'step 0.25 8190' 'repeat 3' 'step 0.5 2' 'drop 2' 'pause' 'repea
 run makelog across.txt across.pel
 wc -c <across.pel
 cksum <across.pel | cut -d' ' -f1
-tail -c +65518 across.pel | head -c 64 | od -An -tx1 -v
+head -c 65581 across.pel | tail -c 64 | od -An -tx1 -v
 tail -c 24 across.pel | od -An -tx1 -v
 
 # Longer than the buffer: the numbers go on, and begin again behind 65,535.
