@@ -19,7 +19,7 @@ run makelog empty.txt empty.pel
 od -An -tx1 -v empty.pel
 
 # Nothing written, dropped or repeated; a repeat behind a line that drops nothing.
-text nothing.txt 'step 1 0' 'drop 0' 'pause' 'repeat 0' 'drop 0' 'repeat 1' 'step 2' 'drop 65536' 'reset'
+text nothing.txt 'step 1 0' 'drop 0' 'pause' 'repeat 0' 'drop 0' 'step 3 0' 'repeat 1' 'step 2' 'drop 65536' 'reset'
 run makelog nothing.txt nothing.pel
 od -An -tx1 -v nothing.pel
 for line in 'step 1 0' 'drop 0'; do
