@@ -60,7 +60,7 @@ run audit endless.txt many.pel
 for entries in 20 21; do
     for k in $(seq $entries); do printf 'step 0.25\ndrop 1\n'; done | { cat && echo 'step 0.25'; } | log gaps.pel
     for k in $(seq $entries); do printf 'step 0.25\nrepeat 1\n'; done | log repeats.pel
-    for k in $(seq $entries); do printf 'step %s\n' $((k + 1)); done | log bursts.pel
+    for k in $(seq $entries); do printf 'step %s\n' $((entries + 2 - k)); done | log bursts.pel
     part '^(gap|repeat|most|answer|end)' audit endless.txt gaps.pel
     part '^(gap|repeat|most|answer|end)' audit endless.txt repeats.pel
     part '^(gap|repeat|most|answer|end)' audit endless.txt bursts.pel
@@ -123,7 +123,7 @@ step 0.00000001'
 run audit plain.txt lost.pel
 
 # Refused before any record.
-for line in 'delay -1' 'scale 1025' 'mode Times 65536' 'easing EaseInSine' 'easing Steps 65537'; do
+for line in 'delay -1' 'scale 1025' 'mode Times 65536' 'mode PingPongTimes 4294967295' 'easing EaseInSine' 'easing Steps 65537'; do
     echo "# $line"
     ramp limit.txt "$line"
     run audit limit.txt whole.pel
@@ -155,7 +155,7 @@ head -c 65536 /dev/zero | tr '\0' '#' >toolong.txt
 run audit toolong.txt whole.pel
 
 # Wrong ramps.
-for line in 'durration 2' 'start 1' 'delay' 'delay x' 'delay 1 2' 'delay 1.2.3' 'delay 1e3' 'mode' 'mode times 3' 'mode Times' 'mode Times x' \
+for line in 'durration 2' 'start 1' 'delay' 'delay x' 'delay 1 2' 'delay 1.2.3' 'delay 1e3' 'mode' 'mode times 3' 'mode Times' 'mode Times x' 'mode Times 1:' 'mode Times 1/' 'mode Times 4294967296' \
     'mode Once 2' 'easing' 'easing Quad' 'easing Steps' 'easing Steps 1.5' 'easing CubicBezier 0 0 1' 'easing Linear 1' \
     'scale 999999999999999999999999999999999999999999' \
     'scale 0.00000000000000000000000000000000000000000000000000000000000000001'; do

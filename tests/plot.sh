@@ -42,7 +42,7 @@ step 1 2'
 picture still.txt pauses.pel
 
 # Very large and very small values and times.
-text large.txt 'start -16777216' 'end 16777216' 'duration 16777216' 'mode Times 2'
+text large.txt 'start -16777216' 'end 16777216' 'duration 16777216' 'mode Times 8'
 picture large.txt
 text small.txt 'start 0' 'end 0.00000000000000000000000000000000000001' 'duration 0.000001'
 picture small.txt
@@ -73,6 +73,9 @@ drop 2
 step 0.5
 step 4097'
 run plot endless.txt ends.pel
+log right.pel <<<'step 0.25 4
+step 4000'
+run plot endless.txt right.pel
 log late.pel <<<'step 100
 step 0.5 2
 drop 7
