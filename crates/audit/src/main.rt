@@ -6,10 +6,12 @@
 // wrong with a file to standard error. The last line of the report is one of
 //
 //     end ok
-//     end gaps G repeats R
+//     end gaps G repeats R first N
 //     end refused N
 //     end unreadable
 mod answer;
+mod ending;
+mod judged;
 mod listed;
 mod put;
 mod report;
