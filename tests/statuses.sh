@@ -28,9 +28,9 @@ log whole.pel <<<'step 0.25 3'
 text small.txt 'step 0.02' 'pause' 'resume' 'step -0' 'reset'
 
 # What the words ask for.
-for program in audit makelog plot; do
-    run "$program" --help
-    run "$program" --version
+for each in audit makelog plot; do
+    run "$each" --help
+    run "$each" --version
 done
 run audit --help plain.txt
 run audit plain.txt whole.pel more
