@@ -91,6 +91,8 @@ run makelog quoted.txt quoted.pel
 printf 'stop' >$'\e[1mname\\'
 echo "# a name with an escape sequence"
 "$root/bin/audit" $'\e[1mname\\' whole.pel 2>errors || said $?
+"$root/bin/audit" plain.txt $'\e[1mnone' 2>errors || said $?
+"$root/bin/makelog" small.txt $'none/\e[1mnone' 2>errors || said $?
 
 # Numbers have 16 bits: what they show, and what they can't.
 for lost in 1 512 65534 65535 65536 65537 66048 131072; do

@@ -74,8 +74,8 @@ fn twice_line(one: Seen) {
     say(1, b"answer record ");
     say_number(1, one.place);
     line(
-        b" repeats the number before it: it was written twice, or 65535 records are missing, or 65536 more, \
-        and so on: the numbers can't tell, and it was not replayed",
+        b" repeats the number before it: by the numbers it was written twice, or 65535 records are missing, \
+        or 65536 more, and so on: they can't tell which, and it was not replayed",
     );
 }
 

@@ -68,7 +68,7 @@ fn opened() -> i32 {
     }
     let fd = os::open_overwrite(&path[..length]);
     if fd < 0 {
-        os::fail(&path[..length]);
+        tools::say_failed(&path[..length]);
     }
     fd
 }

@@ -4,6 +4,12 @@ use crate::quoting::say_bytes;
 use crate::saying::say;
 use libc::STDERR_FILENO;
 
+// On standard error: the name of a file, and why it failed. A write that succeeds leaves errno as it is.
+pub fn say_failed(path: &[u8]) {
+    say_bytes(STDERR_FILENO, path);
+    os::fail(b"");
+}
+
 // Opens the file that an argument names, for reading. Below 0 where it can't, and then standard error has
 // a line that says why.
 pub fn open_argument(i: usize) -> i32 {
@@ -15,7 +21,7 @@ pub fn open_argument(i: usize) -> i32 {
     }
     let fd = os::open_read(&path[..length]);
     if fd < 0 {
-        os::fail(&path[..length]);
+        say_failed(&path[..length]);
     }
     fd
 }
@@ -68,7 +74,7 @@ pub fn fill_from(fd: i32, argument: usize, buffer: &mut [u8]) -> Filled
     let length = os::arg(argument, &mut path);
     let filled = fill(fd, buffer);
     if filled.failed {
-        os::fail(&path[..length]);
+        say_failed(&path[..length]);
     }
     filled
 }

@@ -22,6 +22,7 @@ pub use files::length_of;
 pub use files::open_argument;
 pub use files::read_text;
 pub use files::say_argument;
+pub use files::say_failed;
 pub use heads::Head;
 pub use heads::read_head;
 pub use ramps::RampRead;

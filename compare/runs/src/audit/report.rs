@@ -170,8 +170,8 @@ fn missing_line(one: &Seen) -> String {
 }
 
 fn twice_line(one: &Seen) -> String {
-    let either = "it was written twice, or 65535 records are missing, or 65536 more, and so on";
-    let told = "the numbers can't tell, and it was not replayed";
+    let either = "by the numbers it was written twice, or 65535 records are missing, or 65536 more, and so on";
+    let told = "they can't tell which, and it was not replayed";
     format!("answer record {} repeats the number before it: {either}: {told}", one.place)
 }
 
