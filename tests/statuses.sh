@@ -75,6 +75,9 @@ od -An -tx1 -v shared
 "$root/bin/makelog" long.txt long.pel >made
 cksum <long.pel
 
+# Files that the caller holds open.
+"$root/bin/audit" <(cat plain.txt) /dev/fd/3 3<whole.pel | tail -n 1
+
 # Through links, from another folder.
 mkdir elsewhere
 ln -s "$root/bin/audit" elsewhere/look
