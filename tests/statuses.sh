@@ -71,7 +71,7 @@ for times in once again; do
     { echo before && "$root/bin/makelog" small.txt /dev/stdout && echo behind; } >>shared
 done
 od -An -tx1 -v shared
-"$root/bin/makelog" long.txt /dev/stdout | head -c 560005 | cksum
+"$root/bin/makelog" long.txt /dev/stdout | { head -c 560005 | cksum && cat >/dev/null; }
 "$root/bin/makelog" long.txt long.pel >made
 cksum <long.pel
 
