@@ -1,4 +1,8 @@
-.PHONY: run test programs lib curves compare damage exhaustive power list bench
+.PHONY: help run test programs lib curves compare damage exhaustive power list bench
+
+# This list.
+help:
+	@awk '/^# / { what = substr($$0, 3) } /^[a-z]+:/ { printf "make %-12s%s\n", substr($$1, 1, length($$1) - 1), what }' Makefile
 
 # The auditor's question, on an example.
 run:

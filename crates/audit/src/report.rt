@@ -1,5 +1,7 @@
 // What was found, a line each.
 use crate::answer::answers;
+use crate::ending::End;
+use crate::judged::end_of;
 use crate::listed::Line;
 use crate::listed::list_lines;
 use crate::put::float_line;
@@ -95,22 +97,19 @@ fn tween_lines(t: Tween) {
     value_line(t.value());
 }
 
-fn end_line(refused: u32, counts: Counts, failed: bool) {
-    if failed {
-        tools::end_unreadable();
-        return;
+fn end_line(end: End, counts: Counts, first: u32) {
+    match end {
+        End::Whole => line(b"end ok"),
+        End::Lacking => {
+            say(1, b"end gaps ");
+            say_number(1, counts.gaps);
+            say(1, b" repeats ");
+            say_number(1, counts.repeats);
+            number_line(b" first ", first as u64);
+        }
+        End::Refused(number) => tools::end_refused(number),
+        End::Unreadable => tools::end_unreadable(),
     }
-    if refused != 0 {
-        tools::end_refused(refused);
-        return;
-    }
-    if (counts.gaps == 0) & (counts.repeats == 0) {
-        line(b"end ok");
-        return;
-    }
-    say(1, b"end gaps ");
-    say_number(1, counts.gaps);
-    number_line(b" repeats ", counts.repeats);
 }
 
 pub fn all(w: Walk) {
@@ -124,6 +123,7 @@ pub fn all(w: Walk) {
     lists_lines(lists, counts, reached);
     stopped_line(counts.records, s.refused);
     tween_lines(t);
-    answers(lists, counts, w.first, s.refused != 0);
-    end_line(s.refused, counts, w.failed);
+    answers(lists, counts, w.first, w.failed | (s.refused != 0));
+    let end = end_of(w.failed, s.refused, counts.gaps, counts.repeats, w.first);
+    end_line(end, counts, w.first);
 }

@@ -33,10 +33,10 @@ fn first_number(first: u32, records: &[u8]) -> u32 {
     reader::number_in(reader::record_at(records, 0)) as u32
 }
 
-// 17 where bytes are left over behind the last record.
-fn with_tail(s: Survey, bytes: usize) -> Survey {
+// 17 where a log that was read to its end has bytes left over behind the last record.
+fn with_tail(s: Survey, bytes: usize, failed: bool) -> Survey {
     let mut t = s;
-    if (s.refused == 0) & (bytes % 8 != 0) {
+    if (s.refused == 0) & (bytes % 8 != 0) & !failed {
         t.refused = 17;
     }
     t
@@ -48,7 +48,7 @@ fn next_part(fd: i32, w: Walk) -> Walk {
     let filled = tools::fill_from(fd, 2, &mut buffer);
     let n = filled.bytes;
     let before = w.survey;
-    let survey = with_tail(survey_on(before, &buffer[..n]), n);
+    let survey = with_tail(survey_on(before, &buffer[..n]), n, filled.failed);
     Walk {
         survey,
         bytes: std::num::wrapping_add_u64(w.bytes, n as u64),

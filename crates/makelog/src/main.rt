@@ -21,6 +21,28 @@ use libc::STDERR_FILENO;
 use script::Judged;
 use tools::say;
 
+// Whether the words are there to work on.
+fn is_called() -> bool {
+    tools::has_words(
+        b"makelog",
+        b"usage: makelog SCRIPT LOG\n",
+        b"\n\
+        Writes the event log of a script.\n\
+        \n\
+        SCRIPT  a line each: step SECONDS [TIMES], pause, resume, reset, drop N, repeat N\n\
+        LOG     the file to write; what it held is lost\n\
+        \n\
+        The status of bin/makelog, and the last line:\n\
+        0  end ok: the log is written\n\
+        2  end refused N: a step is refused, by refusal N, and nothing is written\n\
+        3  end unreadable: a file can't be read or written, or the script or the words are wrong\n\
+        Where standard output can't be written the status is 3 too.\n\
+        \n",
+        3,
+        3,
+    )
+}
+
 fn wrong(text: &[u8], fault: lines::Fault) {
     tools::say_fault(1, text, fault);
     tools::end_unreadable();
@@ -41,12 +63,12 @@ fn opened() -> i32 {
     let mut path = io::buffer();
     let length = os::arg(2, &mut path);
     if os::errno() != 0 {
-        say(STDERR_FILENO, b"usage: makelog SCRIPT LOG\n");
+        os::fail(b"the name of a file");
         return -1;
     }
     let fd = os::open_overwrite(&path[..length]);
     if fd < 0 {
-        os::fail(&path[..length]);
+        tools::say_failed(&path[..length]);
     }
     fd
 }
@@ -79,8 +101,11 @@ fn run(text: &[u8]) {
 }
 
 fn main() {
+    if !is_called() {
+        return;
+    }
     let mut text = io::large_buffer();
-    let filled = tools::read_text(1, b"usage: makelog SCRIPT LOG\n", &mut text);
+    let filled = tools::read_text(1, &mut text);
     if filled.failed {
         tools::end_unreadable();
         return;

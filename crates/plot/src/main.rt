@@ -6,11 +6,30 @@ mod alone;
 mod log;
 mod refusing;
 
-use libc::STDERR_FILENO;
 use tools::RampRead;
 use tween::Tween;
 
-const USAGE: [u8; 23] = *b"usage: plot RAMP [LOG]\n";
+// Whether the words are there to work on.
+fn is_called() -> bool {
+    tools::has_words(
+        b"plot",
+        b"usage: plot RAMP [LOG]\n",
+        b"\n\
+        Draws the setpoint over time, as an SVG on standard output; with no log the ramp alone.\n\
+        \n\
+        RAMP  a ramp as text: a name and its value to a line\n\
+        LOG   an event log, which is read twice: a file and no pipe\n\
+        \n\
+        The status of bin/plot, and the last line:\n\
+        0  </svg>: the picture is whole\n\
+        2  end refused N: the ramp or the log is refused, by refusal N\n\
+        3  end unreadable: a file can't be read or is no ramp, or the words are wrong\n\
+        Where the picture can't be written the status is 3 too.\n\
+        \n",
+        2,
+        3,
+    )
+}
 
 // Draws the log that the second argument names, or the ramp alone.
 fn draw(t: Tween) {
@@ -18,7 +37,7 @@ fn draw(t: Tween) {
         alone::draw_alone(t);
         return;
     }
-    let fd = tools::open_argument(2, &USAGE);
+    let fd = tools::open_argument(2);
     if fd < 0 {
         tools::end_unreadable();
         return;
@@ -28,12 +47,10 @@ fn draw(t: Tween) {
 }
 
 fn main() {
-    if os::arg_count() > 3 {
-        tools::say(STDERR_FILENO, &USAGE);
-        tools::end_unreadable();
+    if !is_called() {
         return;
     }
-    let RampRead::Ramp(t) = tools::read_ramp(1, &USAGE) else {
+    let RampRead::Ramp(t) = tools::read_ramp(1) else {
         tools::end_unreadable();
         return;
     };

@@ -1,5 +1,6 @@
 // What is wrong, in words.
 use crate::files::say_argument;
+use crate::quoting::say_quote;
 use crate::saying::say;
 use crate::saying::say_name;
 use crate::saying::say_number;
@@ -53,9 +54,7 @@ fn say_found(text: &[u8], word: Word) {
         say(STDERR_FILENO, b"the end of the line");
         return;
     }
-    say(STDERR_FILENO, b"'");
-    say(STDERR_FILENO, &text[from..to]);
-    say(STDERR_FILENO, b"'");
+    say_quote(STDERR_FILENO, &text[from..to]);
 }
 
 // On standard error: the argument's file, the line, what was found there, and what was expected.

@@ -1,20 +1,27 @@
 // Files by argument.
 ghost use Rattle.io.specs.Counts.{Counts};
+use crate::quoting::say_bytes;
 use crate::saying::say;
 use libc::STDERR_FILENO;
 
+// On standard error: the name of a file, and why it failed. A write that succeeds leaves errno as it is.
+pub fn say_failed(path: &[u8]) {
+    say_bytes(STDERR_FILENO, path);
+    os::fail(b"");
+}
+
 // Opens the file that an argument names, for reading. Below 0 where it can't, and then standard error has
 // a line that says why.
-pub fn open_argument(i: usize, usage: &[u8]) -> i32 {
+pub fn open_argument(i: usize) -> i32 {
     let mut path = io::buffer();
     let length = os::arg(i, &mut path);
     if os::errno() != 0 {
-        say(STDERR_FILENO, usage);
+        os::fail(b"the name of a file");
         return -1;
     }
     let fd = os::open_read(&path[..length]);
     if fd < 0 {
-        os::fail(&path[..length]);
+        say_failed(&path[..length]);
     }
     fd
 }
@@ -22,7 +29,7 @@ pub fn open_argument(i: usize, usage: &[u8]) -> i32 {
 pub fn say_argument(fd: i32, i: usize) {
     let mut path = io::buffer();
     let length = os::arg(i, &mut path);
-    say(fd, &path[..length]);
+    say_bytes(fd, &path[..length]);
 }
 
 // bytes of the buffer were filled. failed: a read failed, and not the file ended.
@@ -67,17 +74,17 @@ pub fn fill_from(fd: i32, argument: usize, buffer: &mut [u8]) -> Filled
     let length = os::arg(argument, &mut path);
     let filled = fill(fd, buffer);
     if filled.failed {
-        os::fail(&path[..length]);
+        say_failed(&path[..length]);
     }
     filled
 }
 
 // The whole text of the file that an argument names, which has to be shorter than the buffer. failed:
 // standard error has a line that says why.
-pub fn read_text(argument: usize, usage: &[u8], buffer: &mut [u8]) -> Filled
+pub fn read_text(argument: usize, buffer: &mut [u8]) -> Filled
     ensures { λ r. ⌜ Counts (r .bytes) (now (buffer .exit)) ⌝ }
 {
-    let fd = open_argument(argument, usage);
+    let fd = open_argument(argument);
     if fd < 0 {
         return Filled {
             bytes: 0,

@@ -1,11 +1,15 @@
 // What the programs share: files, and lines for a person to read.
+mod calls;
 mod ends;
 mod explain;
 mod files;
 mod heads;
+mod quoting;
 mod ramps;
 mod saying;
+mod version;
 
+pub use calls::has_words;
 pub use ends::end_refused;
 pub use ends::end_unreadable;
 pub use explain::say_fault;
@@ -18,6 +22,7 @@ pub use files::length_of;
 pub use files::open_argument;
 pub use files::read_text;
 pub use files::say_argument;
+pub use files::say_failed;
 pub use heads::Head;
 pub use heads::read_head;
 pub use ramps::RampRead;

@@ -28,9 +28,9 @@ fn parsed(argument: usize, text: &[u8]) -> RampRead {
 }
 
 // The ramp of a file of at most 65,535 bytes.
-pub fn read_ramp(argument: usize, usage: &[u8]) -> RampRead {
+pub fn read_ramp(argument: usize) -> RampRead {
     let mut text = io::large_buffer();
-    let filled = read_text(argument, usage, &mut text);
+    let filled = read_text(argument, &mut text);
     if filled.failed {
         return RampRead::Unreadable;
     }

@@ -61,15 +61,19 @@ fn end_number(ended: &Ended) -> Option<u32> {
     let last = ended.output.lines().last().filter(|_| ended.normally)?;
     match last.split(' ').collect::<Vec<_>>()[..] {
         ["end", "ok"] => Some(0),
-        ["end", "gaps", gaps, "repeats", repeats] => (is_number(gaps) && is_number(repeats)).then_some(0),
+        ["end", "gaps", gaps, "repeats", repeats, "first", first] => {
+            [gaps, repeats, first].into_iter().all(is_number).then_some(0)
+        }
         ["end", "refused", number] => number.parse().ok(),
         _ => None,
     }
 }
 
+/// With one line on standard error, in which nothing of a file can reach a terminal as an order.
 fn is_unreadable(ended: &Ended) -> bool {
-    let is_one_line = ended.errors.find('\n') == ended.errors.len().checked_sub(1);
-    ended.normally && ended.output == UNREADABLE_OUTPUT && is_one_line
+    let line = ended.errors.strip_suffix('\n');
+    let is_plain = line.is_some_and(|line| line.bytes().all(|byte| (0x20..0x7f).contains(&byte)));
+    ended.normally && ended.output == UNREADABLE_OUTPUT && is_plain
 }
 
 fn unreadable() -> Ended {
@@ -81,7 +85,7 @@ fn ramp_in(output: &str) -> String {
     settings.map(|line| format!("{line}\n")).collect()
 }
 
-/// Files that are not there, that are none, that are empty or too long; and too few arguments.
+/// Files that are not there, that are none, that are empty or too long; and too few or too many arguments.
 pub fn odd_arguments(folder: &Folder) -> Result<(), Wrong> {
     let [good, empty, long, none, here] = ["good", "empty", "long", "none", ""].map(|name| folder.path(name));
     let ramp = "start 0\nend 8\nduration 1\n";
@@ -91,6 +95,7 @@ pub fn odd_arguments(folder: &Folder) -> Result<(), Wrong> {
     let calls = [
         vec![],
         vec![&good],
+        vec![&good, &good, &good],
         vec![&none, &good],
         vec![&good, &none],
         vec![&here, &good],

@@ -14,6 +14,11 @@ const LISTED: usize = 20;
 const MOST: usize = 5;
 const REPEAT: u16 = 65_535;
 
+const BEHIND: &str = "answer behind a gap, a repeat or a lost beginning the tween and its folds are the \
+    replay's: the pump's may differ";
+const UNSEEN: &str = "answer the numbers can't show a loss of exactly 65536 records in one place, or of a \
+    multiple of it, nor any behind the last record";
+
 /// With the number of the refusal, 0 for none. Of a pipe the length is not known: a cut record is then
 /// refused behind the others, and not before them.
 pub fn report(t: &LaxTween, log: &[u8], piped: bool) -> (String, u32) {
@@ -45,7 +50,7 @@ impl Survey {
             self.most(),
             self.stopped(),
             tween_lines(&self.reached.tween),
-            self.answers(&many, &gaps),
+            self.answers(&many, &gaps, &repeats),
             vec![self.end(gaps.len(), repeats.len())],
         ]
         .concat()
@@ -76,20 +81,33 @@ impl Survey {
         said_where(self.refused != 0, &line)
     }
 
-    fn answers(&self, many: &[&Seen], gaps: &[&Seen]) -> Vec<String> {
+    fn answers(&self, many: &[&Seen], gaps: &[&Seen], repeats: &[&Seen]) -> Vec<String> {
         if self.seen.is_empty() {
             return self.none(true, "no record was replayed");
         }
-        let behind = "answer behind a gap the tween and its folds are those of the records that are there";
+        let counted_on = gaps.is_empty() && repeats.is_empty();
         [
-            self.none(many.is_empty(), "no update made more than one pass"),
-            listed(many, made_line, "answer and more such updates, whose passes were made"),
-            self.before_first(),
-            self.none(gaps.is_empty(), "no record is missing between the first and the last"),
+            self.none(many.is_empty(), "no update that was replayed made more than one pass"),
+            self.passes(many, &[gaps, repeats].concat()),
+            said_where(self.begins_late(), &format!("answer {}", self.before_first())),
             listed(gaps, missing_line, "answer and more such gaps, of which nothing can be known"),
-            said_where(!gaps.is_empty(), behind),
+            listed(repeats, twice_line, "answer and more such repeats, of which the numbers can't tell"),
+            self.none(counted_on, "no gap in the numbers from the first record to the last"),
+            said_where(!counted_on || self.begins_late(), BEHIND),
+            vec![UNSEEN.into()],
         ]
         .concat()
+    }
+
+    /// Those before every loss that the numbers show or may hide are the pump's own.
+    fn passes(&self, many: &[&Seen], losses: &[&Seen]) -> Vec<String> {
+        let is_sure = |one: &Seen| !self.begins_late() && losses.iter().all(|loss| loss.place > one.place);
+        let line = |one: &Seen| if is_sure(one) { made_line(one) } else { behind_line(one) };
+        listed(many, line, "answer and more updates of more than one pass in the replay")
+    }
+
+    fn begins_late(&self) -> bool {
+        self.first.is_some_and(|number| number != 0)
     }
 
     /// What was not found, and how far that holds.
@@ -98,18 +116,16 @@ impl Survey {
         said_where(holds, &format!("answer {what}{until}"))
     }
 
-    fn before_first(&self) -> Vec<String> {
-        let first = self.first.unwrap_or(0);
-        let line = format!(
-            "answer the first record has the number {first} and not 0: what came before it is not in this log"
-        );
-        said_where(first != 0, &line)
+    fn before_first(&self) -> String {
+        let first = self.first.unwrap_or_default();
+        format!("the first record has the number {first} and not 0: what came before it is not in this log")
     }
 
     fn end(&self, gaps: usize, repeats: usize) -> String {
-        match (self.refused, gaps, repeats) {
-            (0, 0, 0) => "end ok".into(),
-            (0, ..) => format!("end gaps {gaps} repeats {repeats}"),
+        let first = self.first.unwrap_or_default();
+        match (self.refused, gaps, repeats, first) {
+            (0, 0, 0, 0) => "end ok".into(),
+            (0, ..) => format!("end gaps {gaps} repeats {repeats} first {first}"),
             (number, ..) => format!("end refused {number}"),
         }
     }
@@ -119,7 +135,7 @@ fn said_where(holds: bool, line: &str) -> Vec<String> {
     if holds { vec![line.into()] } else { Vec::new() }
 }
 
-fn listed(all: &[&Seen], line: fn(&Seen) -> String, more: &str) -> Vec<String> {
+fn listed(all: &[&Seen], line: impl Fn(&Seen) -> String, more: &str) -> Vec<String> {
     let rest = all.len().saturating_sub(LISTED);
     let lines = all.iter().take(LISTED).map(|one| line(one));
     lines.chain(said_where(rest > 0, &format!("{more}: {rest}"))).collect()
@@ -136,13 +152,27 @@ fn repeat_line(one: &Seen) -> String {
 
 fn made_line(one: &Seen) -> String {
     let Seen { folds, place, step, .. } = one;
-    format!("answer the {folds} passes of record {place} were made, by its step of {} s", shown(*step))
+    let made = format!("the {folds} passes of record {place} were made, by its step of {} s", shown(*step));
+    format!("answer as far as the log shows, {made}: the numbers show no loss before it")
+}
+
+fn behind_line(one: &Seen) -> String {
+    let Seen { folds, place, step, .. } = one;
+    let makes =
+        format!("the replay makes {folds} passes at record {place}, by its step of {} s", shown(*step));
+    format!("answer {makes}: the pump's may differ, by what is missing before it or may be")
 }
 
 fn missing_line(one: &Seen) -> String {
     let records = if one.gap == 1 { "record is" } else { "records are" };
-    let what = format!("{} {records} missing before record {}", one.gap, one.place);
-    format!("answer {what}: what was done there can't be known")
+    let what = format!("by the numbers {} {records} missing before record {}", one.gap, one.place);
+    format!("answer {what}, or 65536 more, and so on: what was done there can't be known")
+}
+
+fn twice_line(one: &Seen) -> String {
+    let either = "by the numbers it was written twice, or 65535 records are missing, or 65536 more, and so on";
+    let told = "they can't tell which, and it was not replayed";
+    format!("answer record {} repeats the number before it: {either}: {told}", one.place)
 }
 
 /// A zero of either sign is 0.
