@@ -64,8 +64,8 @@ fn say_marks(c: Course) {
     count(
         replay.missing,
         b"<tspan class=\"gaps\">&#9632;</tspan>",
-        b" record missing",
-        b" records missing",
+        b" record missing by the numbers",
+        b" records missing by the numbers",
     );
     count(
         c.repeats,
