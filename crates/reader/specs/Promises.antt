@@ -1,7 +1,7 @@
 -- Request 3, "Read it back and count the gaps": what holds of every replay. Each sentence is a type; its proof has its name in small letters.
 use Prim.Native.Nat.{ℕ, _+_, _*_, _/_, _%_, _<_, _≤_}
 use mathlib.Core.Path.{_≡_}
-use mathlib.Core.Bool.{true, false, cond}
+use mathlib.Core.Bool.{Bool, true, false, _&&_, _||_, cond}
 use mathlib.Core.List.{List, [], _∷_, _++_, map}
 use lib.Dec.{T, ltb, eqb}
 use lib.ListN.{length, getD, take, drop, replicate}
@@ -22,7 +22,7 @@ use Rattle.reader.specs.declared.hear.Replay.{Replay}
 use Rattle.reader.specs.declared.hear.Played.{Played}
 use Rattle.reader.specs.declared.hear.Played.the-variants.{Done, Refused}
 use Rattle.reader.specs.Records.{recordsOf, eventIn}
-use Rattle.reader.specs.Hearing.{capped, playedOf}
+use Rattle.reader.specs.Hearing.{isRepeat, capped, playedOf}
 use Rattle.reader.specs.Reading.{readOnOf, replayOf, joined}
 
 -- what "a run of updates, pauses, resumes and resets alone" leaves: the tween, "its accepted calls, in order", and the folds of its updates
@@ -91,14 +91,25 @@ eventOf (step n) = Step (wholeF n)
 eventOf pause = Pause
 eventOf resume = Resume
 
--- "Demand 3 holds for a replay, from its tween and whole steps, with no gap and no reset record, its folds being that sum, short of the cap". The records that were read tell of the acts
+-- "no gap": 0 is written for each record that was read, or it is a repeat
+abbrev pub noGap : List ℕ → Bool
+noGap [] = true
+noGap (gap ∷ gaps) = (eqb gap 0 || isRepeat gap) && noGap gaps
+
+-- a repeat "is not replayed": the records that were read, by their gaps, without the repeats
+abbrev pub withoutRepeats : List (List ℕ) → List ℕ → List (List ℕ)
+withoutRepeats [] gaps = []
+withoutRepeats (r ∷ rs) [] = []
+withoutRepeats (r ∷ rs) (gap ∷ gaps) = cond (isRepeat gap) (withoutRepeats rs gaps) (r ∷ withoutRepeats rs gaps)
+
+-- "Demand 3 holds for a replay, from its tween and whole steps, with no gap and no reset record, its folds being that sum, short of the cap". The records that were read, without the repeats, tell of the acts
 abbrev pub ReplayDemand3 : Type 0
 ReplayDemand3 =
     (t u : Tween) (D W s : ℕ) → Settings t D W s → resetOf t ≡ changed.Done u
     → (log list : List ℕ) (acts : List Act) → AllSmall acts
     → let c = replayOf u log list in
-    map eventIn (take (length (c .gaps)) (recordsOf (drop 5 log))) ≡ map eventOf acts
-    → c .gaps ≡ replicate (length acts) 0
+    map eventIn (withoutRepeats (recordsOf (drop 5 log)) (c .gaps)) ≡ map eventOf acts
+    → noGap (c .gaps) ≡ true
     → c .replay .folds < 18446744073709551615
     → let h : Past = record { tween = c .replay .tween; taken = afterAll (fresh u) acts .taken; made = c .replay .folds } in
     Holds (t .looping) D s (scaled s W (h .taken)) h
