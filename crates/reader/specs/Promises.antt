@@ -1,5 +1,5 @@
 -- Request 3, "Read it back and count the gaps": what holds of every replay. Each sentence is a type; its proof has its name in small letters.
-use Prim.Native.Nat.{ℕ, _+_, _*_, _/_, _%_, _<_, _≤_}
+use Prim.Native.Nat.{ℕ, suc, _+_, _*_, _/_, _%_, _<_, _≤_}
 use mathlib.Core.Path.{_≡_}
 use mathlib.Core.Bool.{Bool, true, not, _||_, cond}
 use mathlib.Core.List.{List, [], _∷_, _++_, map}
@@ -18,11 +18,12 @@ use Rattle.event_log.specs.declared.event.Event.the-variants.{Step, Pause, Resu
 use Rattle.event_log.specs.Format.{stepOf, logOf}
 use Rattle.event_log.specs.declared.writer.Logged.the-variants.{Written}
 use Rattle.event_log.specs.Writing.{headIn, isBackward, every, mayBeLogged, recordsIn}
+use Rattle.reader.specs.declared.gaps.Last.the-variants.{Number}
 use Rattle.reader.specs.declared.hear.Replay.{Replay}
 use Rattle.reader.specs.declared.hear.Played.{Played}
 use Rattle.reader.specs.declared.hear.Played.the-variants.{Done, Refused}
 use Rattle.reader.specs.Records.{recordsOf, eventIn}
-use Rattle.reader.specs.Hearing.{isRepeat, capped, playedOf}
+use Rattle.reader.specs.Hearing.{gapOf, isRepeat, capped, playedOf}
 use Rattle.reader.specs.Reading.{readOnOf, replayOf, joined}
 
 -- what "a run of updates, pauses, resumes and resets alone" leaves: the tween, "its accepted calls, in order", and the folds of its updates
@@ -78,13 +79,17 @@ CountsDropped =
     ((j : ℕ) → j < length (c .gaps) → getD (c .gaps) j 0 ≡ cond (eqb j i) k 0)
     × (c .replay .missing ≡ cond (ltb i (length (c .gaps))) k 0)
 
+-- "A loss of 65,535 or more can't be told rightly": of k numbers that were lost, the gap tells k modulo 65,536
+abbrev pub GapLost : Type 0
+GapLost = (n k : ℕ) → gapOf (Number (n % 65536)) ((n + suc k) % 65536) ≡ k % 65536
+
 -- an act of demand 3, as a log has it
 abbrev pub eventOf : Act → Event
 eventOf (step n) = Step (wholeF n)
 eventOf pause = Pause
 eventOf resume = Resume
 
--- "no gap": 0 is written for each record that was read, or it is a repeat
+-- "no gap": of each record that was read the list has 0, or 65,535 for a repeat
 abbrev pub noGap : List ℕ → Bool
 noGap gaps = every (λ gap. eqb gap 0 || isRepeat gap) gaps
 
