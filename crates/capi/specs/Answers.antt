@@ -1,4 +1,4 @@
--- The answers of the library's calls as words. Where the number is not 0 the rest is 0, but for a tween, which is then the one that came.
+-- The answers of the library's calls as words. Where the number is not 0 the rest is 0, but for a tween, which is then the one that came; a run answers beside its number what it reached.
 use Prim.Native.Nat.{ℕ}
 use mathlib.Core.Bool.{Bool, cond}
 use lib.Dec.{eqb}
@@ -18,9 +18,8 @@ use Rattle.tween.specs.declared.answers.Changed.{Changed}
 use Rattle.tween.specs.declared.answers.Changed.the-variants as changed
 use Rattle.tween.specs.declared.answers.Updated.{Updated}
 use Rattle.tween.specs.declared.answers.Updated.the-variants as updated
-use Rattle.steps.specs.declared.run.Outcome.{Outcome}
-use Rattle.steps.specs.declared.run.Outcome.the-variants as outcome
 use Rattle.steps.specs.declared.run.Run.{Run}
+use Rattle.steps.specs.Course.{outcomeNumber}
 use Rattle.words.specs.declared.tweens.LaxTween.{LaxTween}
 use Rattle.words.specs.Modes.{stateWord, flagWord}
 use Rattle.words.specs.Tweens.{tweenWords}
@@ -39,7 +38,14 @@ abbrev pub noFound : ℕ → LaxFound
 noFound n = record { number = n; value = zeroF; settled = 0; xs = 0; derivatives = 0 }
 
 unfoldable pub foundWords : Eased → LaxFound
-foundWords (eased.Value f) = record { number = 0; value = f .value; settled = flagWord (f .settled); xs = f .xs; derivatives = f .derivatives }
+foundWords (eased.Value f) =
+    record {
+      number = 0;
+      value = f .value;
+      settled = flagWord (f .settled);
+      xs = f .xs;
+      derivatives = f .derivatives;
+    }
 foundWords (eased.Refused r) = noFound (numberOf r)
 
 unfoldable pub secondsWords : InSeconds → LaxValue
@@ -90,10 +96,12 @@ unfoldable pub updatedWords : LaxTween → Updated → LaxUpdated
 updatedWords w (updated.Ran u k running) = record { number = 0; folds = k; running = flagWord running; tween = tweenWords u }
 updatedWords w (updated.Refused u r) = notUpdated w (numberOf r)
 
-abbrev pub outcomeNumber : Outcome → ℕ
-outcomeNumber outcome.Finished = 0
-outcomeNumber (outcome.Refused r) = numberOf r
-
--- where no step was taken the tween is the one that came
+-- the tween as it stood when the run ended; where no step was taken, the one that came
 unfoldable pub runWords : LaxTween → Run → LaxRun
-runWords w run = record { done = run .done; unsettled = run .unsettled; number = outcomeNumber (run .outcome); tween = cond (eqb (run .done) 0) w (tweenWords (run .tween)) }
+runWords w run =
+    record {
+      done = run .done;
+      unsettled = run .unsettled;
+      number = outcomeNumber (run .outcome);
+      tween = cond (eqb (run .done) 0) w (tweenWords (run .tween));
+    }

@@ -1,8 +1,8 @@
 -- What the exported calls of an easing answer: the easing read from its words, the library's definition, the answer's words.
 use Prim.Native.Nat.{ℕ}
-use mathlib.Core.Bool.{cond}
 use lib.ListN.{getD}
 use lib.Ieee.{Float}
+use Rattle.refusal.specs.Refusing.{unless}
 use Rattle.easing.specs.declared.kinds.Easing.the-variants.{Linear}
 use Rattle.easing.specs.Kinds.{suppliedOf, allNamed}
 use Rattle.easing.specs.Apply.{applyOf, eqOf}
@@ -40,4 +40,5 @@ laxEasingIsSupplied w = supplied (easingFrom w)
 -- a place beyond 37 is no kind
 unfoldable pub laxEasingNamed : ℕ → LaxEasingAnswer
 laxEasingNamed k =
-    cond (isKind k) (record { number = 0; easing = easingWords (getD allNamed k Linear) }) (record { number = unknownWord; easing = easingWords Linear })
+    unless (isKind k) (record { number = unknownWord; easing = easingWords Linear })
+    (record { number = 0; easing = easingWords (getD allNamed k Linear) })

@@ -34,7 +34,9 @@ onEvent (Known e) f a = f e
 onEvent Unknown f a = a
 
 unfoldable pub laxLogRecord : List ℕ → ℕ → LaxEvent → LaxLogged
-laxLogRecord buffer written w = onEvent (eventFrom w) (λ e. loggedWords written (recordIn buffer written e .answer)) (record { written = written; number = unknownWord })
+laxLogRecord buffer written w =
+    onEvent (eventFrom w) (λ e. loggedWords written (recordIn buffer written e .answer))
+    (record { written = written; number = unknownWord })
 
 unfoldable pub laxLogBuffer : List ℕ → ℕ → LaxEvent → List ℕ
 laxLogBuffer buffer written w = onEvent (eventFrom w) (λ e. recordIn buffer written e .buffer) buffer

@@ -3,7 +3,7 @@ use Prim.Native.Nat.{ℕ}
 use mathlib.Core.List.{List}
 use mathlib.Core.Bool.{cond}
 use lib.Dec.{ltb, eqb}
-use Rattle.steps.specs.Course.{over}
+use Rattle.steps.specs.Course.{outcomeNumber, over}
 use Rattle.reader.specs.declared.gaps.Last.{Last}
 use Rattle.reader.specs.declared.gaps.Last.the-variants.{Unread, Number}
 use Rattle.reader.specs.declared.hear.Replay.{Replay}
@@ -20,7 +20,6 @@ use Rattle.capi.specs.declared.replays.LastRead.{LastRead}
 use Rattle.capi.specs.declared.replays.LastRead.the-variants as lastRead
 use Rattle.capi.specs.declared.replays.ReplayRead.{ReplayRead}
 use Rattle.capi.specs.declared.replays.ReplayRead.the-variants as replayRead
-use Rattle.capi.specs.Answers.{outcomeNumber}
 use Rattle.capi.specs.Tweens.{onTween}
 
 -- a number of 16 bits, or 65,536 where no record was read
@@ -32,7 +31,8 @@ lastWord Unread = 65536
 lastWord (Number n) = n
 
 abbrev pub replayBy : TweenRead → LastRead → LaxReplay → ReplayRead
-replayBy (tweenRead.Known t) (lastRead.Known l) w = replayRead.Known (record { tween = t; last = l; missing = w .missing; folds = w .folds })
+replayBy (tweenRead.Known t) (lastRead.Known l) w =
+    replayRead.Known (record { tween = t; last = l; missing = w .missing; folds = w .folds })
 replayBy (tweenRead.Known t) lastRead.Unknown w = replayRead.Unknown
 replayBy tweenRead.Unknown l w = replayRead.Unknown
 
@@ -57,7 +57,8 @@ notReplayed w = record { done = 0; number = unknownWord; reached = w }
 
 -- a log, and the lent list afterwards
 unfoldable pub laxReplay : LaxTween → List ℕ → List ℕ → LaxReplayed
-laxReplay w log gaps = onTween (tweenFrom w) (λ t. replayedWords (beginWords w) (answerOf (replayOf t log gaps))) (notReplayed (beginWords w))
+laxReplay w log gaps =
+    onTween (tweenFrom w) (λ t. replayedWords (beginWords w) (answerOf (replayOf t log gaps))) (notReplayed (beginWords w))
 
 unfoldable pub laxReplayGaps : LaxTween → List ℕ → List ℕ → List ℕ
 laxReplayGaps w log gaps = onTween (tweenFrom w) (λ t. over (replayOf t log gaps .gaps) gaps) gaps

@@ -1,8 +1,8 @@
 -- What the exported calls of a track answer: the track read from its words, the library's definition, the answer's words.
-use mathlib.Core.Bool.{cond}
 use mathlib.Core.List.{List}
 use lib.ListN.{replicate}
 use lib.Ieee.{Float}
+use Rattle.refusal.specs.Refusing.{unless}
 use Rattle.frames.specs.Limits.{blank}
 use Rattle.keyframe.specs.declared.types.Track.{Track}
 use Rattle.keyframe.specs.Pushing.{newTrack, pushOf, loopingOf}
@@ -31,7 +31,7 @@ use Rattle.capi.specs.TrackAnswers.{untouched, trackChangedWords, notSte
 
 -- the answer for a track that was read, or the one for words that are none
 abbrev pub onTrack : {A : Type 0} → LaxTrack → (Track → A) → A → A
-onTrack w known unknown = cond (knownTrack w) (known (trackFrom w)) unknown
+onTrack w known unknown = unless (knownTrack w) unknown (known (trackFrom w))
 
 -- every word of the places is 0
 unfoldable pub laxTrackNew : LaxTrack
@@ -83,7 +83,9 @@ laxTrackUpdate w step = onTrack w (λ t. trackUpdatedWords w (updateOf t step)) 
 
 -- many times at once, and the lent output afterwards
 unfoldable pub laxTrackFilled : LaxTrack → List Float → List Float → LaxFilled
-laxTrackFilled w times out = onTrack w (λ t. record { filled = batchCount t times out; unsettled = batchUnsettled t times out; number = batchNumber t times out }) (record { filled = 0; unsettled = 0; number = unknownWord })
+laxTrackFilled w times out =
+    onTrack w (λ t. record { filled = batchCount t times out; unsettled = batchUnsettled t times out; number = batchNumber t times out })
+    (record { filled = 0; unsettled = 0; number = unknownWord })
 
 unfoldable pub laxTrackOut : LaxTrack → List Float → List Float → List Float
 laxTrackOut w times out = onTrack w (λ t. batchOut t times out) out

@@ -59,7 +59,9 @@ laxTweenUpdate w step = onTween (tweenFrom w) (λ t. updatedWords w (updateOf t 
 
 -- a run of steps, and its two lent lists afterwards
 unfoldable pub laxTweenRun : LaxTween → List Float → List Float → List ℕ → LaxRun
-laxTweenRun w steps values folds = onTween (tweenFrom w) (λ t. runWords w (answerOf (runOf t steps values folds))) (record { done = 0; unsettled = 0; number = unknownWord; tween = w })
+laxTweenRun w steps values folds =
+    onTween (tweenFrom w) (λ t. runWords w (answerOf (runOf t steps values folds)))
+    (record { done = 0; unsettled = 0; number = unknownWord; tween = w })
 
 unfoldable pub laxRunValues : LaxTween → List Float → List Float → List ℕ → List Float
 laxRunValues w steps values folds = onTween (tweenFrom w) (λ t. over (runOf t steps values folds .values) values) values

@@ -1,7 +1,8 @@
 // What the exported functions answer. Where number is not 0 the rest is 0, but for a tween, which is
-// then the one that came.
+// then the one that came; a run answers beside its number what it reached.
 ghost use mathlib.Core.Path.{_≡_};
-ghost use Rattle.capi.specs.Answers.{foundWords, flagWords, noFound, noValue, noFlag, equalityWords, secondsWords, progressWords, snapshotWords, noSnapshot, unchanged, changedWords, notUpdated, updatedWords, outcomeNumber, runWords};
+ghost use Rattle.steps.specs.Course.{outcomeNumber};
+ghost use Rattle.capi.specs.Answers.{foundWords, flagWords, noFound, noValue, noFlag, equalityWords, secondsWords, progressWords, snapshotWords, noSnapshot, unchanged, changedWords, notUpdated, updatedWords, runWords};
 use easing::Eased;
 use easing::Equality;
 use steps::Outcome;
@@ -69,8 +70,8 @@ pub struct LaxUpdated {
     pub tween: LaxTween,
 }
 
-// done is how many steps were taken; where that is 0 the tween is the one that came. unsettled is
-// how many of the values written were not settled.
+// done is how many steps were taken, and tween as they left it; where done is 0, the one that came.
+// unsettled is how many of the values written were not settled.
 #[repr(C)]
 pub struct LaxRun {
     pub done: usize,

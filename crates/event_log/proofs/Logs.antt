@@ -7,16 +7,16 @@ use native.Mathlib.Omega.{arith}
 use lib.ListN.{length, length-append}
 use lib.Seq.{getD-append-add}
 use Rattle.event_log.specs.declared.event.Event.{Event}
-use Rattle.event_log.specs.Format.{head, next, recordOf, recordsFrom, logOf}
-use Rattle.event_log.specs.Writing.{numberAt, numberBehind}
+use Rattle.event_log.specs.Format.{head, next, recordOf, recordsFrom}
+use Rattle.event_log.specs.Writing.{numberAt}
+use Rattle.event_log.specs.Promises.{LengthLog, LogNumber, PartNumber}
 
 pub length-records : (n : ℕ) (es : List Event) → length (recordsFrom n es) ≡ 8 * length es
 unfolding recordsFrom
 length-records n [] = refl
 length-records n (e ∷ es) = omega (arith, length-append (recordOf n e) (recordsFrom (next n) es), length-records (next n) es)
 
--- "the head followed by n records is 5 + 8 n bytes"
-pub length-log : (es : List Event) → length (logOf es) ≡ 5 + 8 * length es
+pub length-log : LengthLog
 length-log es = omega (arith, length-append head (recordsFrom 0 es), length-records 0 es)
 
 -- the number that a record holds, read back
@@ -41,8 +41,7 @@ records-number n (e ∷ es) (suc i) h k =
     rw (two, one, getD-append-add (recordOf n e) rest (8 * i) 0, getD-append-add (recordOf n e) rest (8 * i + 1) 0)
     (records-number (next n) es i (below (n + 1)) (omega arith) ∙ wraps n i)
 
--- "their numbers count up modulo 65,536"
-pub log-number : (es : List Event) (i : ℕ) → i < length es → numberAt (logOf es) (5 + 8 * i) ≡ i % 65536
+pub log-number : LogNumber
 log-number es i h =
     let rest = recordsFrom 0 es in
     rw (add-assoc 5 (8 * i) 1, getD-append-add head rest (8 * i) 0, getD-append-add head rest (8 * i + 1) 0)
@@ -59,6 +58,5 @@ pub records-more : (n : ℕ) (es : List Event) (e : Event) → n < 65536 → rec
 unfolding recordsFrom
 records-more n es e h = records-append n es (e ∷ []) h ∙ (rw append-nil refl)
 
--- a log in parts: behind the head and one record of a log, with nothing between them, the number is the one that is due behind that record
-pub part-number : (n : ℕ) (e : Event) → n < 65536 → numberBehind (head ++ recordOf n e) ≡ next n
+pub part-number : PartNumber
 part-number n e h = ap next (number-kept n h)

@@ -9,9 +9,10 @@ use Rattle.refusal.specs.declared.Refusal.the-variants.{StepTooLong, NoRoom, St
 use Rattle.event_log.specs.declared.event.Event.{Event}
 use Rattle.event_log.specs.Format.{mark, version, head, recordOf, startsWith}
 use Rattle.event_log.specs.Writing.{refused, wrote, headIn, isLong, isBackward, numberBehind, recordIn}
+use Rattle.event_log.specs.Promises.{NoHead}
 use Rattle.event_log.proofs.Heads.{head-whole}
 
-pub no-head : (buffer : List ℕ) → length buffer < 5 → headIn buffer ≡ refused buffer NoRoom
+pub no-head : NoHead
 unfolding headIn
 no-head buffer h = rw (lt-leb 5 (length buffer) h)
 

@@ -11,27 +11,24 @@ use lib.Ieee.Fits.{and-l, and-r}
 use lib.Ieee.Bits.{is-true}
 use lib.ListN.{length, take, drop, length-append, length-drop}
 use lib.Seq.{take-append-seam, drop-drop, drop-append-add}
-use Rattle.math.proofs.Lists.{every}
 use Rattle.math.proofs.Choice.{by-test, and-both}
-use Rattle.refusal.specs.declared.Refusal.{Refusal}
 use Rattle.refusal.specs.declared.Refusal.the-variants.{NoRoom}
 use Rattle.event_log.specs.declared.event.Event.{Event}
 use Rattle.event_log.specs.declared.writer.Logged.{Logged}
 use Rattle.event_log.specs.declared.writer.Logged.the-variants.{Written, Refused}
 use Rattle.event_log.specs.Format.{mark, version, head, recordOf, recordsFrom, logOf, startsWith}
-use Rattle.event_log.specs.Writing.{Writing, refused, wrote, headIn, isLong, isBackward, isWhole, numberBehind, recordIn, mayBeLogged, recordsIn, Keeps}
+use Rattle.event_log.specs.Writing.{Writing, refused, wrote, headIn, isLong, isBackward, isWhole, numberBehind, recordIn, every, mayBeLogged, recordsIn, Keeps}
+use Rattle.event_log.specs.Promises.{LogMore, WritesLog, HeadKeeps, RecordKeeps, RefusedStays}
 use Rattle.event_log.proofs.Logs.{length-log, log-number, records-more}
 use Rattle.event_log.proofs.Refusals.{a-head, a-record}
 use Rattle.event_log.proofs.Places.{put-keeps, same-keeps}
 
--- "other bytes stay", for the head
-pub head-keeps : (buffer : List ℕ) → Keeps 0 5 buffer (headIn buffer .buffer)
+pub head-keeps : HeadKeeps
 unfolding headIn
 head-keeps buffer =
     by-test (λ w. Keeps 0 5 buffer (w .buffer)) (leb 5 (length buffer)) (wrote buffer 0 head) (refused buffer NoRoom) (λ h. put-keeps buffer 0 head (leb-true 5 (length buffer) h)) (λ _. same-keeps 0 5 buffer)
 
--- and for a record
-pub record-keeps : (buffer : List ℕ) (written : ℕ) (e : Event) → Keeps written 8 buffer (recordIn buffer written e .buffer)
+pub record-keeps : RecordKeeps
 unfolding recordIn
 record-keeps buffer written e =
     let log = take written buffer in
@@ -50,8 +47,7 @@ isRefused : Logged → Bool
 isRefused (Written n) = false
 isRefused (Refused r) = true
 
--- "other bytes stay": where a record is refused, all of them
-pub refused-stays : (buffer : List ℕ) (written : ℕ) (e : Event) (r : Refusal) → recordIn buffer written e .answer ≡ Refused r → recordIn buffer written e .buffer ≡ buffer
+pub refused-stays : RefusedStays
 unfolding recordIn isRefused
 refused-stays buffer written e r =
     let log = take written buffer in
@@ -85,9 +81,7 @@ together buffer log new =
     let rest = drop (length log) buffer in
     rw (zero-add (length (log ++ new)), length-append log new, take-append-seam log rest, drop-append-add log rest (length new), drop-drop (length new) (length log) buffer) refl
 
--- a record behind a log makes the log of one event more
-pub log-more : (buffer : List ℕ) (es : List Event) (e : Event) → mayBeLogged e ≡ true → length (logOf es) + 8 ≤ length buffer
-    → recordIn (logOf es ++ drop (length (logOf es)) buffer) (length (logOf es)) e ≡ wrote buffer 0 (logOf (es ++ (e ∷ [])))
+pub log-more : LogMore
 log-more buffer es e ok h =
     let log = logOf es in
     let n = length log in
@@ -113,8 +107,6 @@ more buffer ds (e ∷ es) ok h =
     ∙ more buffer (ds ++ (e ∷ [])) es (and-r (mayBeLogged e) (every mayBeLogged es) ok) (omega arith)
     ∙ ap (λ (l : List Event). wrote buffer 0 (logOf l)) (append-assoc ds (e ∷ []) es)
 
--- "what is written is a log": the head, and a record for each of n events that may be logged, are accepted where there is room for 5 + 8 n bytes, and leave the log of the events
-pub writes-log : (buffer : List ℕ) (es : List Event) → T (every mayBeLogged es) → 5 + 8 * length es ≤ length buffer
-    → recordsIn es (headIn buffer) ≡ wrote buffer 0 (logOf es)
+pub writes-log : WritesLog
 unfolding recordsFrom
 writes-log buffer es ok h = ap (recordsIn es) (a-head buffer (omega arith)) ∙ more buffer [] es ok (omega arith)

@@ -1,6 +1,6 @@
 -- Request 2, "Write the event log": the two calls, and their refusals in their order.
 use Prim.Native.Nat.{ℕ, _+_, _-_, _*_, _%_, _<_, _≤_}
-use mathlib.Core.Bool.{Bool, not, _&&_, _||_, cond}
+use mathlib.Core.Bool.{Bool, true, not, _&&_, _||_, cond}
 use mathlib.Core.List.{List, [], _∷_, _++_}
 use mathlib.Core.Logic.{_⊎_}
 use mathlib.Core.Path.{_≡_}
@@ -10,7 +10,7 @@ use lib.Ieee.{lt, isNan}
 use Rattle.math.specs.Rounded.{zeroF, topF}
 use Rattle.refusal.specs.declared.Refusal.{Refusal}
 use Rattle.refusal.specs.declared.Refusal.the-variants.{StepTooLong, NoRoom, StepBelowZero, WrongMark, UnknownVersion, WrongLength}
-use Rattle.refusal.specs.Refusing.{unless}
+use Rattle.refusal.specs.Refusing.{unless, when}
 use Rattle.event_log.specs.declared.event.Event.{Event}
 use Rattle.event_log.specs.declared.writer.Logged.{Logged}
 use Rattle.event_log.specs.declared.writer.Logged.the-variants.{Written, Refused}
@@ -27,7 +27,11 @@ refused buffer r = record { answer = Refused r; buffer = buffer }
 
 -- bytes behind the first `written`; "other bytes stay"
 abbrev pub wrote : List ℕ → ℕ → List ℕ → Writing
-wrote buffer written new = record { answer = Written (written + length new); buffer = take written buffer ++ new ++ drop (written + length new) buffer }
+wrote buffer written new =
+    record {
+      answer = Written (written + length new);
+      buffer = take written buffer ++ new ++ drop (written + length new) buffer;
+    }
 
 -- "The head is written by a call of its own": 13 "no room [..] for the head, 5"
 unfoldable pub headIn : List ℕ → Writing
@@ -57,14 +61,19 @@ numberBehind log = cond (leb 13 (length log)) (next (numberAt log (length log - 
 unfoldable pub recordIn : List ℕ → ℕ → Event → Writing
 recordIn buffer written e =
     let log = take written buffer in
-    cond (isLong e) (refused buffer StepTooLong)
-    (cond (isBackward e) (refused buffer StepBelowZero)
+    when (isLong e) (refused buffer StepTooLong)
+    (when (isBackward e) (refused buffer StepBelowZero)
     (unless (leb written (length buffer)) (refused buffer WrongLength)
     (unless (startsWith mark log) (refused buffer WrongMark)
     (unless (startsWith version (drop 3 log)) (refused buffer UnknownVersion)
     (unless (isWhole written) (refused buffer WrongLength)
     (unless (leb (written + 8) (length buffer)) (refused buffer NoRoom)
     (wrote buffer written (recordOf (numberBehind log) e))))))))
+
+-- a test passes for each of a list
+abbrev pub every : {A : Type 0} → (A → Bool) → List A → Bool
+every test [] = true
+every test (x ∷ xs) = test x && every test xs
 
 -- neither 5 nor 14
 abbrev pub mayBeLogged : Event → Bool

@@ -1,10 +1,11 @@
 -- The difference of two 16-bit numbers, as the library's subtraction gives it. Assumes nothing.
-use Prim.Native.Nat.{ℕ, suc, _+_, _%_, _<_}
+use Prim.Native.Nat.{ℕ, _+_, _%_, _<_}
 use mathlib.Core.Path.{_≡_}
 use native.Mathlib.Omega.{arith}
 use Rattle.event_log.specs.Format.{next}
 use Rattle.reader.specs.declared.gaps.Last.the-variants.{Number}
 use Rattle.reader.specs.Hearing.{less, gapOf}
+use Rattle.reader.specs.Promises.{GapLost}
 
 less-is : (a b d : ℕ) → a < 65536 → b < 65536 → d < 65536 → (d + b) % 65536 ≡ a → d ≡ less a b
 less-is a b d h k l e = omega arith
@@ -16,6 +17,5 @@ gap-is last number d g a b c e p q = rw (less-is number last d b a c p) at (less
 pub gap-next : (n : ℕ) → n < 65536 → gapOf (Number n) (next n) ≡ 0
 gap-next n h = omega arith
 
--- where k numbers are left out the gap is k, modulo 65,536: of 65,535 it looks like a repeat, and of 65,536 like none
-pub gap-lost : (n k : ℕ) → gapOf (Number (n % 65536)) ((n + suc k) % 65536) ≡ k % 65536
+pub gap-lost : GapLost
 gap-lost n k = omega arith

@@ -6,13 +6,14 @@ use mathlib.Core.List.{List, [], _∷_, _++_}
 use native.Mathlib.Nat.{mod-lt, mod-eq-of-lt, zero-add}
 use native.Mathlib.Omega.{arith}
 use borrow.Author.Tests.{ltb-true, ltb-false, eqb-true, eqb-false, lt-ltb, le-ltb, eq-eqb, ne-eqb}
-use lib.Dec.{ltb, eqb}
+use lib.Dec.{T, ltb, eqb}
 use lib.ListN.{length, getD, length-append, List·getD-append}
 use lib.Seq.{getD-append-add}
 use Rattle.steps.specs.declared.run.Outcome.{Outcome}
 use Rattle.steps.specs.declared.run.Outcome.the-variants as outcome
 use Rattle.event_log.specs.declared.event.Event.{Event}
 use Rattle.event_log.specs.Format.{recordsFrom}
+use Rattle.event_log.specs.Writing.{every, mayBeLogged}
 use Rattle.reader.specs.declared.gaps.Last.{Last}
 use Rattle.reader.specs.declared.gaps.Last.the-variants.{Unread, Number}
 use Rattle.reader.specs.declared.hear.Replay.{Replay}
@@ -20,7 +21,7 @@ use Rattle.reader.specs.declared.hear.Played.the-variants.{Refused}
 use Rattle.reader.specs.Records.{split}
 use Rattle.reader.specs.Hearing.{capped, gapOf}
 use Rattle.reader.specs.Reading.{Reading, readingOf, joinedBy}
-use Rattle.reader.specs.Promises.{AllLogged}
+use Rattle.reader.specs.Promises.{isF32}
 use Rattle.reader.proofs.Counting.{gap-lost}
 use Rattle.reader.proofs.Parts.{reads-on}
 use Rattle.reader.proofs.Followed.{since, Follows, lastOf, follows, few, each, no-gap}
@@ -85,13 +86,13 @@ module _ (i k : ℕ) (first : Reading) (s : Replay) (from : s .missing ≡ 0) (f
     went-on : Missing i k both
     went-on = (λ j l. placed j l (ltb j i) refl, missed-there (last .gaps) refl)
 
-module _ (k : ℕ) (some : 1 ≤ k) (most : k ≤ 65534) (ds qs : List Event) (D : AllLogged ds) (Q : AllLogged qs) (middle : 1 ≤ length ds) (s : Replay) (from : s .missing ≡ 0) (unread : s .last ≡ Unread) where
+module _ (k : ℕ) (some : 1 ≤ k) (most : k ≤ 65534) (ds qs : List Event) (fd : T (every isF32 ds)) (fq : T (every isF32 qs)) (D : T (every mayBeLogged ds)) (Q : T (every mayBeLogged qs)) (middle : 1 ≤ length ds) (s : Replay) (from : s .missing ≡ 0) (unread : s .last ≡ Unread) where
   -- the log without the records between ds and qs
   abbrev records : List (List ℕ)
   records = split (length ds) (recordsFrom 0 ds) ++ split (length qs) (recordsFrom ((length ds + k) % 65536) qs)
 
   first-follows : Follows (length ds) 0 s 0 (readingOf (split (length ds) (recordsFrom 0 ds)) s)
-  first-follows = follows ds 0 s 0 D (omega arith) (ap (λ (l : Last). gapOf l 0) unread) (λ z. omega (arith, z))
+  first-follows = follows ds 0 s 0 fd D (omega arith) (ap (λ (l : Last). gapOf l 0) unread) (λ z. omega (arith, z))
 
   gap-there : (n : ℕ) (l : Last) → l ≡ lastOf 0 n Unread → 1 ≤ n → gapOf l ((n + k) % 65536) ≡ k
   gap-there zero l q h = absurd (omega arith)
@@ -110,7 +111,7 @@ module _ (k : ℕ) (some : 1 ≤ k) (most : k ≤ 65534) (ds qs : List Event) (D
       let f = first-follows .2 e in
       let n = (length ds + k) % 65536 in
       went-on (length ds) k c s from first-follows (length qs) n (readingOf (split (length qs) (recordsFrom n qs)) (c .replay)) (f .0)
-      (follows qs n (c .replay) k Q (mod-lt (length ds + k) (omega arith)) (gap-there (length ds) (c .replay .last) (f .1 ∙ ap (lastOf 0 (length ds)) unread) middle) (λ z. omega (arith, z)))
+      (follows qs n (c .replay) k fq Q (mod-lt (length ds + k) (omega arith)) (gap-there (length ds) (c .replay .last) (f .1 ∙ ap (lastOf 0 (length ds)) unread) middle) (λ z. omega (arith, z)))
       most
 
   pub counts-between : Missing (length ds) k (readingOf records s)

@@ -1,18 +1,22 @@
 -- What the reader makes of records by our writer, one behind the other. Assumes nothing.
 use Prim.Native.Nat.{ℕ, zero, suc, _+_, _-_, _%_, _<_, _≤_}
 use mathlib.Core.Path.{_≡_, refl, sym, ap, _∙_}
-use mathlib.Core.Bool.{Bool, true, false, cond, false≢true}
+use mathlib.Core.Bool.{Bool, true, false, not, cond, false≢true}
 use mathlib.Core.List.{List, [], _∷_}
 use native.Mathlib.Nat.{mod-lt}
 use native.Mathlib.Omega.{arith}
-use borrow.Author.Tests.{ne-eqb}
-use lib.Dec.{eqb}
+use borrow.Author.Tests.{ne-eqb, not-true}
+use lib.Dec.{T, eqb}
+use lib.Ieee.Fits.{and-l, and-r}
+use lib.Ieee.Bits.{is-true}
 use lib.ListN.{length, getD, take, replicate, length-take, length-replicate}
 use lib.Seq.{getD-take}
+use Rattle.math.proofs.Choice.{and-both}
 use Rattle.steps.specs.declared.run.Outcome.{Outcome}
 use Rattle.steps.specs.declared.run.Outcome.the-variants as outcome
 use Rattle.event_log.specs.declared.event.Event.{Event}
 use Rattle.event_log.specs.Format.{next, recordOf, recordsFrom}
+use Rattle.event_log.specs.Writing.{isLong, isBackward, every, mayBeLogged}
 use Rattle.reader.specs.declared.gaps.Last.{Last}
 use Rattle.reader.specs.declared.gaps.Last.the-variants.{Number}
 use Rattle.reader.specs.declared.hear.Replay.{Replay}
@@ -21,7 +25,7 @@ use Rattle.reader.specs.declared.hear.Played.the-variants.{Done, Refused
 use Rattle.reader.specs.Records.{split}
 use Rattle.reader.specs.Hearing.{capped, gapOf, playedOf, further, heardOf}
 use Rattle.reader.specs.Reading.{Reading, followed, readingOf}
-use Rattle.reader.specs.Promises.{AllLogged}
+use Rattle.reader.specs.Promises.{isF32}
 use Rattle.reader.proofs.Counting.{gap-next}
 use Rattle.reader.proofs.Recorded.{hears-recorded}
 
@@ -74,17 +78,20 @@ one m number s g (Done u k) rest N h =
     let i = h v refl in
     (ap (λ (l : List ℕ). g ∷ l) (i .0 ∙ front-again m (length (rest v .gaps))), i .1 ∙ stays (rest v .gaps) (s .missing + g), λ q. (ap suc (i .2 q .0), i .2 q .1 ∙ last-on number m N))
 
-pub follows : (es : List Event) (number : ℕ) (s : Replay) (g : ℕ) → AllLogged es → number < 65536 → gapOf (s .last) number ≡ g → (g ≡ 65535 → ⊥)
+pub follows : (es : List Event) (number : ℕ) (s : Replay) (g : ℕ) → T (every isF32 es) → T (every mayBeLogged es) → number < 65536 → gapOf (s .last) number ≡ g → (g ≡ 65535 → ⊥)
     → Follows (length es) number s g (readingOf (split (length es) (recordsFrom number es)) s)
 unfolding recordsFrom split readingOf
-follows [] number s g L N G new = (refl, refl, λ q. (refl, refl))
-follows (e ∷ es) number s g (L, Ls) N G new =
+follows [] number s g F L N G new = (refl, refl, λ q. (refl, refl))
+follows (e ∷ es) number s g F L N G new =
+    let fits = and-l (isF32 e) (every isF32 es) F in
+    let here = is-true (mayBeLogged e) (and-l (mayBeLogged e) (every mayBeLogged es) L) in
+    let short = not-true (isLong e) (and-both (not (isLong e)) (not (isBackward e)) here .0) in
     let heard : heardOf s (recordOf number e) ≡ further (playedOf (s .tween) e) s number g =
-    hears-recorded number N s e L (λ q. new (sym G ∙ q)) ∙ ap (further (playedOf (s .tween) e) s number) G
+    hears-recorded number N s e fits short (λ q. new (sym G ∙ q)) ∙ ap (further (playedOf (s .tween) e) s number) G
     in
     rw heard
     (one (length es) number s g (playedOf (s .tween) e) (readingOf (split (length es) (recordsFrom (next number) es))) N (λ u q.
-    follows es (next number) u 0 Ls (mod-lt (number + 1) (omega arith)) (ap (λ (l : Last). gapOf l (next number)) q ∙ gap-next number N) (λ z. omega (arith, z))))
+    follows es (next number) u 0 (and-r (isF32 e) (every isF32 es) F) (and-r (mayBeLogged e) (every mayBeLogged es) L) (mod-lt (number + 1) (omega arith)) (ap (λ (l : Last). gapOf l (next number)) q ∙ gap-next number N) (λ z. omega (arith, z))))
 
 zeros : (n j : ℕ) → getD (replicate {A = ℕ} n 0) j 0 ≡ 0
 zeros zero j = refl

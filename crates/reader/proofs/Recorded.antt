@@ -14,12 +14,12 @@ use Rattle.tween.specs.Update.{updateOf}
 use Rattle.event_log.specs.declared.event.Event.{Event}
 use Rattle.event_log.specs.declared.event.Event.the-variants.{Step, Pause, Resume, Reset}
 use Rattle.event_log.specs.Format.{bitsOf, recordOf}
-use Rattle.event_log.specs.Writing.{numberAt}
+use Rattle.event_log.specs.Writing.{numberAt, isLong}
 use Rattle.event_log.proofs.Logs.{number-kept}
 use Rattle.reader.specs.declared.hear.Replay.{Replay}
 use Rattle.reader.specs.Records.{stepIn, isStep, isWrong, eventIn}
 use Rattle.reader.specs.Hearing.{gapOf, byUpdate, playedOf, further, heardOf}
-use Rattle.reader.specs.Promises.{Logged}
+use Rattle.reader.specs.Promises.{isF32}
 use Rattle.reader.proofs.Heard.{hears-played}
 
 -- four bytes, low byte first, read back
@@ -83,21 +83,21 @@ module _ (n : ℕ) (below : n < 65536) where
   recorded-step : (x : Float) → T (fits binary32 x) → stepIn (recordOf n (Step x)) ≡ maxZeroOf x
   recorded-step x h = ap (ofBits binary32) (bits-kept (bitsOf (Step x)) (few-bits x h)) ∙ read-step x h
 
-  recorded-right : (e : Event) → Logged e → isWrong (recordOf n e) ≡ false
+  recorded-right : (e : Event) → T (isF32 e) → isLong e ≡ false → isWrong (recordOf n e) ≡ false
   unfolding isWrong toBits ofBits lt
-  recorded-right (Step x) ((h, _), k) = rw (recorded-step x h, written-step x k) refl
-  recorded-right Pause h = refl
-  recorded-right Resume h = refl
-  recorded-right Reset h = refl
+  recorded-right (Step x) h k = rw (recorded-step x h, written-step x k) refl
+  recorded-right Pause h k = refl
+  recorded-right Resume h k = refl
+  recorded-right Reset h k = refl
 
-  recorded-event : (t : Tween) (e : Event) → Logged e → playedOf t (eventIn (recordOf n e)) ≡ playedOf t e
+  recorded-event : (t : Tween) (e : Event) → T (isF32 e) → isLong e ≡ false → playedOf t (eventIn (recordOf n e)) ≡ playedOf t e
   unfolding eventIn playedOf
-  recorded-event t (Step x) ((h, _), k) = ap (λ (y : Float). byUpdate (updateOf t y)) (recorded-step x h) ∙ ap byUpdate (same-update t x k)
-  recorded-event t Pause h = refl
-  recorded-event t Resume h = refl
-  recorded-event t Reset h = refl
+  recorded-event t (Step x) h k = ap (λ (y : Float). byUpdate (updateOf t y)) (recorded-step x h) ∙ ap byUpdate (same-update t x k)
+  recorded-event t Pause h k = refl
+  recorded-event t Resume h k = refl
+  recorded-event t Reset h k = refl
 
   -- a record that the writer wrote, behind a gap that is no repeat: the call that it tells of is made
-  pub hears-recorded : (s : Replay) (e : Event) → Logged e → (gapOf (s .last) n ≡ 65535 → ⊥) → heardOf s (recordOf n e) ≡ further (playedOf (s .tween) e) s n (gapOf (s .last) n)
-  hears-recorded s e h k =
-      hears-played s (recordOf n e) (recorded-right e h) n (gapOf (s .last) n) (sym (recorded-number e)) refl k (eventIn (recordOf n e)) (playedOf (s .tween) e) refl (sym (recorded-event (s .tween) e h))
+  pub hears-recorded : (s : Replay) (e : Event) → T (isF32 e) → isLong e ≡ false → (gapOf (s .last) n ≡ 65535 → ⊥) → heardOf s (recordOf n e) ≡ further (playedOf (s .tween) e) s n (gapOf (s .last) n)
+  hears-recorded s e h k new =
+      hears-played s (recordOf n e) (recorded-right e h k) n (gapOf (s .last) n) (sym (recorded-number e)) refl new (eventIn (recordOf n e)) (playedOf (s .tween) e) refl (sym (recorded-event (s .tween) e h k))

@@ -1,10 +1,12 @@
 -- A log by our writer without some of its records: the reader counts exactly those. Assumes nothing.
 use Prim.Native.Nat.{ℕ, zero, suc, _+_, _*_, _/_, _%_, _<_, _≤_}
 use mathlib.Core.Path.{_≡_, refl, sym, ap, _∙_}
+use mathlib.Core.Bool.{Bool}
 use mathlib.Core.List.{List, [], _∷_, _++_, append-assoc}
 use native.Mathlib.Omega.{arith}
 use borrow.Author.Tests.{le-ltb}
-use lib.Dec.{leb, eqb}
+use lib.Dec.{T, leb, eqb}
+use lib.Ieee.Fits.{and-i, and-l, and-r}
 use lib.ListN.{length, take, drop, take-append-drop}
 use lib.Seq.{length-take-le, take-at, drop-at, take-append-add, drop-append-add}
 use Rattle.math.proofs.Choice.{by-test}
@@ -14,22 +16,23 @@ use Rattle.tween.specs.declared.record.Tween.{Tween}
 use Rattle.tween.specs.Limits.{withinOf}
 use Rattle.event_log.specs.declared.event.Event.{Event}
 use Rattle.event_log.specs.Format.{head, recordsFrom, logOf}
+use Rattle.event_log.specs.Writing.{every, mayBeLogged}
 use Rattle.event_log.proofs.Logs.{length-records, records-append}
 use Rattle.reader.specs.Records.{split, recordsOf}
 use Rattle.reader.specs.Reading.{Reading, stopped, readOnOf, beginOf, replayOf}
-use Rattle.reader.specs.Promises.{AllLogged, without, CountsDropped}
+use Rattle.reader.specs.Promises.{isF32, without, CountsDropped}
 use Rattle.reader.proofs.Parts.{records-both}
 use Rattle.reader.proofs.Dropped.{Missing, counts-between}
 
-all-take : (n : ℕ) (es : List Event) → AllLogged es → AllLogged (take n es)
-all-take zero es h = tt
-all-take (suc n) [] h = tt
-all-take (suc n) (e ∷ es) (h, hs) = (h, all-take n es hs)
+all-take : (f : Event → Bool) (n : ℕ) (es : List Event) → T (every f es) → T (every f (take n es))
+all-take f zero es h = tt
+all-take f (suc n) [] h = tt
+all-take f (suc n) (e ∷ es) h = and-i (f e) (every f (take n es)) (and-l (f e) (every f es) h) (all-take f n es (and-r (f e) (every f es) h))
 
-all-drop : (n : ℕ) (es : List Event) → AllLogged es → AllLogged (drop n es)
-all-drop zero es h = h
-all-drop (suc n) [] h = tt
-all-drop (suc n) (e ∷ es) (h, hs) = all-drop n es hs
+all-drop : (f : Event → Bool) (n : ℕ) (es : List Event) → T (every f es) → T (every f (drop n es))
+all-drop f zero es h = h
+all-drop f (suc n) [] h = tt
+all-drop f (suc n) (e ∷ es) h = all-drop f n es (and-r (f e) (every f es) h)
 
 -- the records of a log, cut behind the first n
 cut : (n : ℕ) (es : List Event) → recordsFrom 0 es ≡ recordsFrom 0 (take n es) ++ recordsFrom ((0 + length (take n es)) % 65536) (drop n es)
@@ -72,12 +75,12 @@ nothing t r i k = (λ j h. absurd (omega (arith, h)), rw (le-ltb i 0 (omega arit
 
 pub counts-dropped : CountsDropped
 unfolding replayOf readOnOf
-counts-dropped t es i k list L one some most inside =
+counts-dropped t es i k list F L one some most inside =
     let M : Reading → Type 0 = Missing i k in
     let d : length (take i es) ≡ i = length-take-le i es (omega arith) in
     rw (log-is es i k inside)
     (by-test M (withinOf t) _ _ (λ _.
     by-test M (eqb (length (bytes es i k inside) % 8) 0) _ _ (λ _.
     by-test M (leb (length (bytes es i k inside) / 8) (length list)) _ _ (λ _.
-    rw (records-are es i k inside, d) (rw d at (counts-between k some most (take i es) (drop (i + k) es) (all-take i es L) (all-drop (i + k) es L) (omega arith) (beginOf t) refl refl)))
+    rw (records-are es i k inside, d) (rw d at (counts-between k some most (take i es) (drop (i + k) es) (all-take isF32 i es F) (all-drop isF32 (i + k) es F) (all-take mayBeLogged i es L) (all-drop mayBeLogged (i + k) es L) (omega arith) (beginOf t) refl refl)))
     (λ _. nothing t OutputTooShort i k)) (λ _. nothing t WrongLength i k)) (λ _. nothing t RecordBreaksLimit i k))

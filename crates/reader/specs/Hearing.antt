@@ -4,6 +4,7 @@ use mathlib.Core.Bool.{Bool, cond}
 use mathlib.Core.List.{List}
 use lib.Dec.{eqb}
 use Rattle.refusal.specs.declared.Refusal.the-variants.{WrongRecord}
+use Rattle.refusal.specs.Refusing.{when}
 use Rattle.tween.specs.declared.record.Tween.{Tween}
 use Rattle.tween.specs.declared.answers.Changed.{Changed}
 use Rattle.tween.specs.declared.answers.Changed.the-variants as changed
@@ -59,7 +60,8 @@ playedOf t Reset = byChange (resetOf t)
 
 -- behind the call: "The total missing is the sum"; "the folds of all replayed updates, summed". "A call refused by the tween [..] stops the replay there"
 abbrev pub further : Played → Replay → ℕ → ℕ → Heard
-further (Done u k) s number gap = Goes gap (record { tween = u; last = Number number; missing = capped (s .missing + gap); folds = capped (s .folds + k) })
+further (Done u k) s number gap =
+    Goes gap (record { tween = u; last = Number number; missing = capped (s .missing + gap); folds = capped (s .folds + k) })
 further (Refused r) s number gap = Stops r
 
 -- a record: "18 [..] when its record is reached, repeats too"; a repeat "is not replayed", and the total is "without repeats"
@@ -67,6 +69,6 @@ unfoldable pub heardOf : Replay → List ℕ → Heard
 heardOf s r =
     let number = numberAt r 0 in
     let gap = gapOf (s .last) number in
-    cond (isWrong r) (Stops WrongRecord)
+    when (isWrong r) (Stops WrongRecord)
     (cond (isRepeat gap) (Goes gap s)
     (further (playedOf (s .tween) (eventIn r)) s number gap))

@@ -8,6 +8,7 @@ use lib.Ieee.{Float}
 use Rattle.bezier.specs.declared.types.Found.{Found}
 use Rattle.refusal.specs.declared.Refusal.{Refusal}
 use Rattle.refusal.specs.declared.Refusal.the-variants.{RecordBreaksLimit, OutputTooShort}
+use Rattle.refusal.specs.Number.{numberOf}
 use Rattle.refusal.specs.Refusing.{unless}
 use Rattle.easing.specs.declared.answers.Eased.{Eased}
 use Rattle.easing.specs.declared.answers.Eased.the-variants as eased
@@ -36,6 +37,11 @@ taken (updated.Refused u r) = Stops r
 unfoldable pub stepOf : Tween → Float → Taken
 stepOf t x = taken (updateOf t x)
 
+-- how a run ended, as a number: a refusal's, 0 for none
+abbrev pub outcomeNumber : Outcome → ℕ
+outcomeNumber Finished = 0
+outcomeNumber (Refused r) = numberOf r
+
 -- what a run comes to: the tween, the value and the folds of each step that was taken, how many of the values are not settled, and how it ended. Request 1: "Values don't change": a value is what was found, without the search behind it
 pub record Course : Type 0 where
   pub tween : Tween
@@ -60,7 +66,13 @@ counting f n = cond (not (f .settled)) (suc n) n
 abbrev pub followed : Taken → Tween → (Tween → Course) → Course
 followed (Took u f k) t rest =
     let c = rest u in
-    record { tween = c .tween; values = f .value ∷ c .values; folds = k ∷ c .folds; unsettled = counting f (c .unsettled); outcome = c .outcome }
+    record {
+      tween = c .tween;
+      values = f .value ∷ c .values;
+      folds = k ∷ c .folds;
+      unsettled = counting f (c .unsettled);
+      outcome = c .outcome;
+    }
 followed (Stops r) t rest = stopped t r
 
 unfoldable pub courseOf : List Float → Tween → Course

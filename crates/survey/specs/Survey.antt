@@ -5,7 +5,6 @@ use mathlib.Core.List.{List, [], _∷_}
 use mathlib.Core.Path.{_≡_}
 use lib.Dec.{ltb}
 use lib.ListN.{length}
-use Rattle.refusal.specs.Number.{numberOf}
 use Rattle.steps.specs.declared.run.Outcome.{Outcome}
 use Rattle.steps.specs.declared.run.Outcome.the-variants.{Finished, Refused}
 use Rattle.reader.specs.declared.hear.Replay.{Replay}
@@ -47,13 +46,10 @@ unfoldable pub surveyOf : List (List ℕ) → Replay → Counts → Course
 surveyOf [] s k = record { replay = s; counts = k; outcome = Finished }
 surveyOf (r ∷ rs) s k = surveyed (heardOf s r) s k (surveyOf rs)
 
--- the number of a refusal, 0 for none
-abbrev pub outcomeNumber : Outcome → ℕ
-outcomeNumber Finished = 0
-outcomeNumber (Refused r) = numberOf r
-
 -- a survey's replay is the reader's, so that all that is promised of a replay is promised of it
 abbrev pub Reads : Type 0
 Reads =
     (rs : List (List ℕ)) (s : Replay) (k : Counts) → k .records ≤ 18446744073709551615
-    → (surveyOf rs s k .replay ≡ readingOf rs s .replay) × (surveyOf rs s k .outcome ≡ readingOf rs s .outcome) × (surveyOf rs s k .counts .records ≡ capped (k .records + length (readingOf rs s .gaps)))
+    → (surveyOf rs s k .replay ≡ readingOf rs s .replay)
+    × (surveyOf rs s k .outcome ≡ readingOf rs s .outcome)
+    × (surveyOf rs s k .counts .records ≡ capped (k .records + length (readingOf rs s .gaps)))

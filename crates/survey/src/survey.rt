@@ -1,9 +1,10 @@
 // The survey of a log, a part at a time.
 ghost use mathlib.Core.Path.{_≡_};
 ghost use Prim.Native.Nat.{_-_};
+ghost use Rattle.steps.specs.Course.{outcomeNumber};
 ghost use Rattle.reader.specs.Reading.{beginOf};
 ghost use Rattle.reader.specs.Records.{recordsOf};
-ghost use Rattle.survey.specs.Survey.{zeroCounts, countedOf, surveyOf, outcomeNumber};
+ghost use Rattle.survey.specs.Survey.{zeroCounts, countedOf, surveyOf};
 use crate::lists::Lists;
 use crate::lists::empty_lists;
 use crate::lists::noted;

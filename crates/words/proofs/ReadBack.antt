@@ -26,9 +26,10 @@ use Rattle.words.specs.Kinds.{isKind, withParameters, easingFrom, easing
 use Rattle.words.specs.Modes.{isMode, loopFrom, loopWords, stateFrom, stateWord, flagWord}
 use Rattle.words.specs.Tracks.{blanks, knownKinds, knownTrack, frameFrom, framesFrom, trackFrom, frameWords, framesWords, trackWords}
 use Rattle.words.specs.Tweens.{tweenFrom, tweenWords}
+use Rattle.words.specs.Promises.{EasingBack, LoopBack, StateBack, TweenBack, TrackKnown, TrackBack}
 use Rattle.words.proofs.Known.{all-places}
 
-pub easing-back : (e : Easing) → easingFrom (easingWords e) ≡ kind.Known e
+pub easing-back : EasingBack
 unfolding easingFrom easingWords withParameters
 easing-back Linear = refl
 easing-back EaseInQuad = refl
@@ -69,7 +70,7 @@ easing-back (Wiggle wiggles) = refl
 easing-back (CustomBounce strength) = refl
 easing-back (ExpoScale start end) = refl
 
-pub loop-back : (l : Loop) → loopFrom (loopWords l) ≡ mode.Known l
+pub loop-back : LoopBack
 unfolding loopFrom loopWords
 loop-back Once = refl
 loop-back (Times n) = refl
@@ -77,7 +78,7 @@ loop-back Forever = refl
 loop-back PingPong = refl
 loop-back (PingPongTimes n) = refl
 
-pub state-back : (s : TweenState) → stateFrom (stateWord s) ≡ state.Known s
+pub state-back : StateBack
 unfolding stateFrom stateWord
 state-back Idle = refl
 state-back Running = refl
@@ -88,7 +89,7 @@ flag-back : (b : Bool) → not (eqb (flagWord b) 0) ≡ b
 flag-back true = refl
 flag-back false = refl
 
-pub tween-back : (t : Tween) → tweenFrom (tweenWords t) ≡ Known t
+pub tween-back : TweenBack
 unfolding tweenFrom tweenWords
 tween-back t = rw (easing-back (t .easing), loop-back (t .looping), state-back (t .state), flag-back (t .«ping_pong_reverse»))
 
@@ -126,28 +127,18 @@ mode-back Forever = refl
 mode-back PingPong = refl
 mode-back (PingPongTimes n) = refl
 
--- t with blank places behind its frames
-abbrev pub cleared : Track → Track
-cleared t =
-    record {
-      frames = take (t .count) (t .frames) ++ drop (t .count) blanks;
-      count = t .count;
-      elapsed = t .elapsed;
-      looping = t .looping;
-      «loop_count» = t .«loop_count»;
-      complete = t .complete;
-    }
-
 module _ (came : List LaxKeyframe) (t : Track) (long : length (t .frames) ≡ 64) (fit : t .count ≤ 64) where
   -- the frames among the words
   written : take (t .count) (framesWords came (t .frames) (t .count)) ≡ map frameWords (take (t .count) (t .frames))
   unfolding framesWords
   written = rw (all-places (t .count) fit) (take-at (map frameWords (take (t .count) (t .frames))) (drop (t .count) came) (t .count) (length-map (take (t .count) (t .frames)) frameWords ∙ length-take-le (t .count) (t .frames) (omega (arith, long, fit))))
 
-  pub track-back : trackFrom (trackWords came t) ≡ cleared t
-  unfolding trackFrom trackWords framesFrom
-  track-back = rw (all-places (t .count) fit, all-places (t .count) fit, written, frames-back (take (t .count) (t .frames)), loop-back (t .looping), flag-back (t .complete)) refl
+pub track-back : TrackBack
+unfolding trackFrom trackWords framesFrom
+track-back came t long fit =
+    rw (all-places (t .count) fit, all-places (t .count) fit, written came t long fit, frames-back (take (t .count) (t .frames)), loop-back (t .looping), flag-back (t .complete)) refl
 
-  pub track-known : knownTrack (trackWords came t) ≡ true
-  unfolding knownTrack trackWords
-  track-known = rw (all-places (t .count) fit, all-places (t .count) fit, written, kinds-back (take (t .count) (t .frames)), mode-back (t .looping)) refl
+pub track-known : TrackKnown
+unfolding knownTrack trackWords
+track-known came t long fit =
+    rw (all-places (t .count) fit, all-places (t .count) fit, written came t long fit, kinds-back (take (t .count) (t .frames)), mode-back (t .looping)) refl

@@ -3,3 +3,4 @@ pub mod Modes
 pub mod Tweens
 pub mod Tracks
 pub mod Sampling
+pub mod Promises

@@ -1,9 +1,8 @@
 -- The starred examples hold of the definitions, row by row, by computation. Assumes nothing.
 use mathlib.Core.Path.{refl}
-use Rattle.worked.specs.Starred.{AllHold}
-use Rattle.worked.specs.Table.{table}
+use Rattle.worked.specs.Table.{Starred}
 use Rattle.worked.proofs.Computing.{tweens}
 
-pub starred : AllHold table
+pub starred : Starred
 unfolding tweens
 starred = (refl, (refl, (refl, (refl, (refl, (refl, (refl, (refl, (refl, (refl, (((refl, (refl, tt)), ((refl, (refl, tt)), ((refl, (refl, (refl, tt))), tt))), (((refl, (refl, (refl, tt))), tt), (((refl, (refl, tt)), tt), (((refl, (refl, tt)), tt), ((refl, tt), tt)))))))))))))))

@@ -3,7 +3,7 @@ use mathlib.Core.List.{List, [], _∷_}
 use Rattle.easing.specs.declared.kinds.Easing.the-variants.{EaseInQuad, EaseInOutQuad, EaseInOutCubic, EaseOutBounce, CubicBezier, Steps, SlowMo}
 use Rattle.loop_mode.specs.declared.Loop.the-variants.{Times, Forever, PingPongTimes}
 use Rattle.tween.specs.declared.record.TweenState.the-variants.{Completed}
-use Rattle.worked.specs.Starred.{_÷_, folds, elapsed, state, reversed, value, step, refused, Row, eases, jumps, runs, tween}
+use Rattle.worked.specs.Starred.{_÷_, folds, elapsed, state, reversed, value, step, refused, Row, eases, jumps, runs, tween, AllHold}
 
 abbrev pub table : List Row
 table =
@@ -21,7 +21,11 @@ table =
     ∷ eases EaseOutBounce (25 ÷ 100) (47265625 ÷ 100000000)
     ∷ eases (SlowMo (5 ÷ 10) (2 ÷ 1)) (125 ÷ 1000) (1875 ÷ 10000)
     -- T1
-    ∷ runs (tween 3 2 (Times 4) 0 1) (step 3 (folds 0 ∷ elapsed 1 ∷ []) ∷ step 5 (folds 2 ∷ elapsed 0 ∷ []) ∷ step 100 (folds 2 ∷ elapsed 3 ∷ state Completed ∷ []) ∷ [])
+    ∷ runs (tween 3 2 (Times 4) 0 1)
+    (step 3 (folds 0 ∷ elapsed 1 ∷ [])
+    ∷ step 5 (folds 2 ∷ elapsed 0 ∷ [])
+    ∷ step 100 (folds 2 ∷ elapsed 3 ∷ state Completed ∷ [])
+    ∷ [])
     -- T2, with two passes and with three
     ∷ runs (tween 2 0 (PingPongTimes 2) 10 20) (step 5 (folds 2 ∷ reversed ∷ value 10 ∷ []) ∷ [])
     ∷ runs (tween 2 0 (PingPongTimes 3) 10 20) (step 6 (folds 3 ∷ value 20 ∷ []) ∷ [])
@@ -29,3 +33,7 @@ table =
     ∷ runs (tween 1 0 Forever 0 1) (step 4096 (folds 4096 ∷ elapsed 0 ∷ []) ∷ [])
     ∷ runs (tween 1 0 Forever 0 1) (refused 4097 7 ∷ [])
     ∷ []
+
+-- "Marked * are proved of the definitions as a single table under a single statement"
+abbrev pub Starred : Type 0
+Starred = AllHold table

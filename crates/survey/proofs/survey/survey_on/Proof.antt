@@ -4,8 +4,9 @@ use mathlib.Core.Path.{refl, ap, _∙_}
 use native.Mathlib.Omega.{arith}
 use borrow.Author.Needs.{needs}
 use lib.ListN.{length}
+use Rattle.steps.specs.Course.{outcomeNumber}
 use Rattle.survey.specs.declared.survey.Survey.{Survey}
-use Rattle.survey.specs.Survey.{Course, outcomeNumber}
+use Rattle.survey.specs.Survey.{Course}
 use Rattle.reader.proofs.Heard.{heard-as}
 use Rattle.survey.proofs.Courses.{Reached, begins, goes-on, stops, finishes}
 use Rattle.survey.proofs.survey.survey_on.Statement.{statement}
