@@ -99,7 +99,16 @@ printf 'step 0.25 9000\ndrop 2\nstep 2.5\n' | log slow.pel
     sleep 0.2
     tail -c +65543 slow.pel
 } | run audit endless.txt /dev/stdin
+{ cat slow.pel && printf x; } | part '^(records|stopped|answer|end)' audit endless.txt /dev/stdin
 head -c -3 slow.pel | part '^(records|stopped|answer|end)' audit endless.txt /dev/stdin
+
+# How far it is, on standard error: a file of more than 32 MiB, one of less, and a pipe.
+log long.pel <<<'step 0.25 4200000'
+part '^(audit|records|folds|end)' audit endless.txt long.pel
+head -c 16800005 long.pel >half.pel
+part '^(audit|records|folds|end)' audit endless.txt half.pel
+part '^(audit|records|folds|end)' audit endless.txt /dev/stdin <half.pel
+cat half.pel | part '^(audit|records|folds|end)' audit endless.txt /dev/stdin
 
 # A replay that stops: its record is damaged, or the tween refuses it.
 log good.pel <<<'step 0.5 8'
