@@ -32,10 +32,6 @@ pub record SquareRoot (x r : Float) : Type 0 where
   pub of-zero : lt zeroF x ≡ false → r ≡ x
   pub above-zero : lt zeroF x ≡ true → Root x r
 
--- the inner function's part of it: r is the root of sig * 2 ^ place smallest values, 2 ^ -149 each
-abbrev pub RootOf : ℕ → ℕ → Float → Type 0
-RootOf sig place r = (x : Float) → HasValue x false (sig * 2 ^ place) (2 ^ 149) → Root x r
-
 -- x * 2 ^ 298, which is whole for every finite x of binary32
 abbrev pub scaledOf : Float → ℕ
 scaledOf nan = 0
