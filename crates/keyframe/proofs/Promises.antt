@@ -34,7 +34,7 @@ use Rattle.keyframe.specs.declared.types.End.{End}
 use Rattle.keyframe.specs.declared.types.End.the-variants.{At, Never}
 use Rattle.keyframe.specs.Limits.{framesIn, baseOf, endOf, Fine}
 use Rattle.keyframe.specs.Playback.{doneOf}
-use Rattle.keyframe.specs.Stepping.{movedOf, ran, finalOf, passedOf, advanceOf, updateOf}
+use Rattle.keyframe.specs.Stepping.{movedOf, ran, finalOf, passesMade, advanceOf, updateOf}
 use Rattle.keyframe.specs.Pushing.{storedOf, placedOf, pushOf}
 use Rattle.keyframe.proofs.Records.{frames-fine}
 use Rattle.keyframe.proofs.Changes.{by-push}
@@ -123,11 +123,11 @@ goes t h e c = go (ltb (t .count) 2) h
 advance-told : (t : Track) → doneOf t ≡ false → (end : End) (sum : Float) → Told (advanceOf end t sum)
 unfolding advanceOf
 advance-told t h (At total) sum =
-    by-test Told (le total sum) _ _ (λ _. ran-told (movedOf t total (finalOf (t .looping) (passedOf t sum)) true) false (sym (ap not (or-true (ltb (t .count) 2)))))
-    (λ _. ran-told (movedOf t sum (passedOf t sum) false) true (sym (ap not (goes t h sum (passedOf t sum)))))
+    by-test Told (le total sum) _ _ (λ _. ran-told (movedOf t total (finalOf (t .looping) (passesMade t sum)) true) false (sym (ap not (or-true (ltb (t .count) 2)))))
+    (λ _. ran-told (movedOf t sum (passesMade t sum) false) true (sym (ap not (goes t h sum (passesMade t sum)))))
 advance-told t h Never sum =
     by-test Told (lt topF sum) _ _ (λ _ b k. unlike b ElapsedTooLong k)
-    (λ _. ran-told (movedOf t sum (passedOf t sum) false) true (sym (ap not (goes t h sum (passedOf t sum)))))
+    (λ _. ran-told (movedOf t sum (passesMade t sum) false) true (sym (ap not (goes t h sum (passesMade t sum)))))
 
 update-told : (t : Track) (dt : Float) → Told (updateOf t dt)
 update-told t dt =

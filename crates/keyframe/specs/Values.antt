@@ -13,7 +13,10 @@ use Rattle.keyframe.specs.Limits.{framesIn, withinOf}
 use Rattle.keyframe.specs.Batch.{batchNumber}
 
 unfoldable pub valueAtAlone : Track → Float → Refusal ⊎ Float
-valueAtAlone t secs = unless (withinOf t) (inl RecordBreaksLimit) (unless (ltb 0 (t .count)) (inl NoFrames) (inr (sampleAlone (framesIn t) secs)))
+valueAtAlone t secs =
+    unless (withinOf t) (inl RecordBreaksLimit)
+    (unless (ltb 0 (t .count)) (inl NoFrames)
+    (inr (sampleAlone (framesIn t) secs)))
 
 unfoldable pub batchAlone : Track → List Float → List Float → List Float
 batchAlone t times out = cond (eqb (batchNumber t times out) 0) (filledAlone (framesIn t) times out) out
