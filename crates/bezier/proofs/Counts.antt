@@ -5,15 +5,15 @@ use native.Mathlib.Omega.{arith}
 use lib.Ieee.{Float}
 use Rattle.math.specs.Range.{clamp01Of}
 use Rattle.bezier.specs.Curve.{sampleCubicOf}
-use Rattle.bezier.specs.Search.{foundAt, cutOf, nearOf, turnOf, bisectOf, bisectionOf, newtonOf, solveOf}
-use Rattle.bezier.specs.Bezier.{atEnd, foundOf}
+use Rattle.bezier.specs.Search.{solvedAt, cutOf, nearOf, turnOf, bisectOf, bisectionOf, newtonOf, solveOf}
+use Rattle.bezier.specs.Bezier.{atEnd, solutionOf}
 use Rattle.bezier.specs.declared.types.Turn.{Turn}
 use Rattle.bezier.specs.declared.types.Turn.the-variants.{Near, Flat, Next}
 use Rattle.bezier.specs.declared.types.Span.{Span}
-use Rattle.bezier.specs.declared.types.Found.{Found}
+use Rattle.bezier.specs.declared.types.Solved.{Solved}
 
 -- at most so many x and so many derivatives
-abbrev pub AtMostEach : ℕ → ℕ → Found → Type 0
+abbrev pub AtMostEach : ℕ → ℕ → Solved → Type 0
 AtMostEach x d f = (f .xs ≤ x) × (f .derivatives ≤ d)
 
 module _ (x1 x2 t : Float) where
@@ -38,10 +38,10 @@ module _ (x1 x2 t : Float) where
       let h = newton-few n (turnOf x1 x2 t v) v in
       (omega (arith, h .0), omega (arith, h .1))
 
-pub few-evaluations : (t x1 x2 : Float) → AtMostEach 16 6 (foundOf t x1 x2)
-unfolding foundOf
+pub few-evaluations : (t x1 x2 : Float) → AtMostEach 16 6 (solutionOf t x1 x2)
+unfolding solutionOf
 few-evaluations t x1 x2 = go (atEnd t)
   where
-    go : (b : Bool) → AtMostEach 16 6 (cond b (foundAt true t) (solveOf (clamp01Of x1) (clamp01Of x2) t))
+    go : (b : Bool) → AtMostEach 16 6 (cond b (solvedAt true t) (solveOf (clamp01Of x1) (clamp01Of x2) t))
     go true = (zero-le, zero-le)
     go false = newton-few (clamp01Of x1) (clamp01Of x2) t 6 (turnOf (clamp01Of x1) (clamp01Of x2) t t) t

@@ -10,7 +10,7 @@ use Rattle.math.specs.Rounded.{zeroF}
 use Rattle.math.proofs.Lists.{every, every-member}
 use Rattle.curves.specs.Root.{rootFrom, sqrtOf}
 use Rattle.curves.specs.Circ.{inCirc, outCirc, inOutCirc}
-use Rattle.bezier.specs.Bezier.{foundOf, cubicBezier}
+use Rattle.bezier.specs.Bezier.{solutionOf, cubicBezier}
 use Rattle.easing.specs.declared.kinds.Easing.{Easing}
 use Rattle.easing.specs.declared.answers.Eased.{Eased}
 use Rattle.easing.specs.declared.answers.Eased.the-variants.{Value, Refused}
@@ -20,7 +20,7 @@ use Rattle.easing.specs.Apply.{searchOf, applyOf}
 use Rattle.easing.specs.Ends.{suppliedIn, ended}
 
 all-ended : T (every ended (suppliedIn allNamed))
-unfolding suppliedOf applyOf withinOf paramsOf curveOf searchOf add sub mul div neg lt le eq isNan ofInt ofBits sqrtOf rootFrom inCirc outCirc inOutCirc cubicBezier foundOf
+unfolding suppliedOf applyOf withinOf paramsOf curveOf searchOf add sub mul div neg lt le eq isNan ofInt ofBits sqrtOf rootFrom inCirc outCirc inOutCirc cubicBezier solutionOf
 all-ended = tt
 
 pub ends : (e : Easing) → List·Memᴰ e (suppliedIn allNamed) → ended e ≡ true
@@ -45,5 +45,5 @@ at t [] = []
 at t (e ∷ es) = bits (applyOf e t) ∷ at t es
 
 pub zeros : at zeroF (suppliedIn allNamed) ≡ 0 ∷ 0 ∷ 0 ∷ 0 ∷ 0 ∷ 0 ∷ 0 ∷ 0 ∷ 0 ∷ 0 ∷ 0 ∷ 0 ∷ 0 ∷ 0 ∷ 0 ∷ 0 ∷ 0 ∷ 0 ∷ 0x8000_0000 ∷ 0 ∷ 0 ∷ 0 ∷ 0 ∷ 0 ∷ 0 ∷ 0 ∷ []
-unfolding suppliedOf applyOf withinOf paramsOf curveOf searchOf add sub mul div neg lt le eq isNan ofInt ofBits toBits sqrtOf rootFrom inCirc outCirc inOutCirc cubicBezier foundOf
+unfolding suppliedOf applyOf withinOf paramsOf curveOf searchOf add sub mul div neg lt le eq isNan ofInt ofBits toBits sqrtOf rootFrom inCirc outCirc inOutCirc cubicBezier solutionOf
 zeros = refl

@@ -20,6 +20,7 @@ use Rattle.curves.specs.Stairs.{stepsOf}
 use Rattle.bezier.specs.Bezier.{cubicBezier}
 use Rattle.curves.proofs.Bounds.{in-power, out-power, in-out-power, in-back, out-back, in-out-back, in-bounce, out-bounce, in-out-bounce, custom-bounce-most, slow-mo-most, steps-within}
 use Rattle.curves.proofs.Circles.{circ-at-most}
+use Rattle.bezier.specs.declared.types.Solved.{Solved}
 use Rattle.bezier.specs.declared.types.Found.{Found}
 use Rattle.bezier.proofs.Answers.{answer-at-most}
 use Rattle.refusal.specs.declared.Refusal.the-variants.{ProgressIsNan}
@@ -91,7 +92,7 @@ abbrev Fine : Eased → Type 0
 Fine (Value f) = AtMost 134217728 (f .value)
 Fine (Refused r) = Unit {0}
 
-eased-fine : (c : Option (Float → Float)) (search : Float → Found) (fine : Bool) (u : Float) → (T fine → Bounded c u) → Fine (easedAt c search fine u)
+eased-fine : (c : Option (Float → Float)) (search : Float → Solved) (fine : Bool) (u : Float) → (T fine → Bounded c u) → Fine (easedAt c search fine u)
 eased-fine none search fine u h = tt
 eased-fine (some f) search true u h = h tt
 eased-fine (some f) search false u h = tt

@@ -10,7 +10,7 @@ use Rattle.easing.specs.declared.answers.Eased.the-variants.{Value}
 use Rattle.easing.specs.Apply.{applyOf, fitsRecordOf}
 use Rattle.frames.specs.declared.frame.Keyframe.{Keyframe}
 use Rattle.frames.specs.Limits.{frameWithin}
-use Rattle.frames.specs.Sampling.{alongOf, easedOf}
+use Rattle.frames.specs.Sampling.{localProgress, easedOf}
 use Rattle.frames.proofs.Rising.{time-fine, easing-fine}
 use Rattle.frames.proofs.Clocks.{Clock, time-clock}
 use Rattle.frames.proofs.Samples.{local-within}
@@ -22,8 +22,8 @@ eased-answers e p h n =
     rw (k .1)
 
 pub between-answers : (k l : Keyframe) (t : Float) → frameWithin k ≡ true → frameWithin l ≡ true → Clock t
-    → let p = alongOf (k .time) (l .time) t in
+    → let p = localProgress (k .time) (l .time) t in
     applyOf (k .easing) p ≡ Value (easedOf (k .easing) p)
 between-answers k l t f g c =
     let w = local-within t (k .time) (l .time) c (time-clock (k .time) (time-fine k f)) (time-clock (l .time) (time-fine l g)) in
-    eased-answers (k .easing) (alongOf (k .time) (l .time) t) (easing-fine k f) (le-numbers (alongOf (k .time) (l .time) t) oneF (w .1) .0)
+    eased-answers (k .easing) (localProgress (k .time) (l .time) t) (easing-fine k f) (le-numbers (localProgress (k .time) (l .time) t) oneF (w .1) .0)

@@ -1,5 +1,5 @@
 pub mod Limits
 pub mod Sampling
-pub mod Counting
 pub mod Pushing
+pub mod Inner
 pub mod Values

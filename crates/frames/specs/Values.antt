@@ -12,7 +12,7 @@ use Rattle.math.specs.Blend.{blendOf}
 use Rattle.easing.specs.Values.{applyAlone}
 use Rattle.frames.specs.declared.frame.Keyframe.{Keyframe}
 use Rattle.frames.specs.Limits.{noFrame}
-use Rattle.frames.specs.Sampling.{firstOf, lastOf, cutOf, alongOf, passedOf}
+use Rattle.frames.specs.Sampling.{firstOf, lastOf, cutOf, localProgress, framesUpTo}
 
 -- a refusal counts as 0
 abbrev pub valueIn : {R : Type 0} → R ⊎ Float → Float
@@ -20,13 +20,13 @@ valueIn (inl r) = zeroF
 valueIn (inr v) = v
 
 unfoldable pub betweenAlone : Keyframe → Keyframe → Float → Float
-betweenAlone k l t = blendOf (k .value) (l .value) (valueIn (applyAlone (k .easing) (alongOf (k .time) (l .time) t)))
+betweenAlone k l t = blendOf (k .value) (l .value) (valueIn (applyAlone (k .easing) (localProgress (k .time) (l .time) t)))
 
 abbrev pub pickAlone : Keyframe → Keyframe → Keyframe → Keyframe → Float → Float
 pickAlone first last k l t = cond (le t (first .time)) (first .value) (cond (le (last .time) t) (last .value) (betweenAlone k l t))
 
 abbrev pub atAlone : List Keyframe → Float → Float
-atAlone l t = pickAlone (firstOf l) (lastOf l) (getD l (passedOf t l - 1) noFrame) (getD l (passedOf t l) noFrame) t
+atAlone l t = pickAlone (firstOf l) (lastOf l) (getD l (framesUpTo t l - 1) noFrame) (getD l (framesUpTo t l) noFrame) t
 
 unfoldable pub sampleAlone : List Keyframe → Float → Float
 sampleAlone l secs = cond (eqb (length l) 1) (firstOf l .value) (atAlone l (cutOf (maxZeroOf secs) (lastOf l .time)))

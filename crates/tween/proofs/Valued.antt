@@ -14,7 +14,7 @@ use Rattle.math.proofs.Numbers.{div-number}
 use Rattle.math.proofs.Bounded.{one-within, blend-most}
 use Rattle.math.proofs.Ranges.{clamped}
 use Rattle.bezier.specs.declared.types.Found.{Found}
-use Rattle.bezier.specs.Search.{foundAt, withValue}
+use Rattle.bezier.specs.Bezier.{plainOf, withValue}
 use Rattle.units.specs.declared.InProgress.the-variants as progress
 use Rattle.easing.specs.declared.answers.Eased.{Eased}
 use Rattle.easing.specs.declared.answers.Eased.the-variants.{Value}
@@ -70,5 +70,5 @@ module _ (t : Tween) (h : T (withinOf t)) where
   unfolding valueOf
   value-answers =
       rw within
-      (by-test Finite (eq (t .duration) zeroF) (Value (foundAt true (t .end))) (blendIn t (applyOf (t .easing) (progressIn t)))
-      (λ _. (foundAt true (t .end), refl, at-most-more 16777216 9007199254740992 (t .end) (lit≤ tt) (i .end-most))) (λ _. blended))
+      (by-test Finite (eq (t .duration) zeroF) (Value (plainOf (t .end))) (blendIn t (applyOf (t .easing) (progressIn t)))
+      (λ _. (plainOf (t .end), refl, at-most-more 16777216 9007199254740992 (t .end) (lit≤ tt) (i .end-most))) (λ _. blended))
