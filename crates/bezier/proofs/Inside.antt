@@ -17,6 +17,7 @@ use Rattle.math.proofs.Ranges.{clamped, one-held, within-at-most, within-finite
 use Rattle.bezier.specs.Curve.{sampleCubicOf, sampleCubicDerivativeOf}
 use Rattle.bezier.specs.Search.{solvedAt, tinyF, middleOf, cutOf, nearOf, turnOf, bisectOf, bisectionOf, newtonOf, solveOf}
 use Rattle.bezier.specs.Bezier.{atEnd, solutionOf}
+use Rattle.bezier.specs.Promises.{FoundWithin}
 use Rattle.bezier.specs.declared.types.Turn.{Turn}
 use Rattle.bezier.specs.declared.types.Turn.the-variants.{Near, Flat, Next}
 use Rattle.bezier.specs.declared.types.Span.{Span}
@@ -93,7 +94,7 @@ module _ (x1 x2 t : Float) (w1 : Within x1) (w2 : Within x2) (wt : Within t) whe
   newton-within (suc n) Flat u v w = bisection-within
   newton-within (suc n) (Next v) u w z = newton-within n (turnOf x1 x2 t v) v (turn-within v w) w
 
-pub found-within : (t x1 x2 : Float) → Within t → T (isFinite x1) → T (isFinite x2) → Within ((solutionOf t x1 x2) .u)
+pub found-within : FoundWithin
 unfolding solutionOf
 found-within t x1 x2 w p q = go (atEnd t)
   where

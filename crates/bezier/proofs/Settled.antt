@@ -7,7 +7,8 @@ use Rattle.math.specs.Rounded.{_⊖_, _⊘_}
 use Rattle.math.specs.Range.{clamp01Of, sizeOf}
 use Rattle.bezier.specs.Curve.{sampleCubicOf, sampleCubicDerivativeOf}
 use Rattle.bezier.specs.Search.{tinyF, cutOf, missOf, nearOf, turnOf, bisectOf, bisectionOf, newtonOf}
-use Rattle.bezier.specs.Bezier.{atEnd, solutionOf}
+use Rattle.bezier.specs.Bezier.{solutionOf}
+use Rattle.bezier.specs.Promises.{SettledNear}
 use Rattle.bezier.specs.declared.types.Turn.{Turn}
 use Rattle.bezier.specs.declared.types.Turn.the-variants.{Near, Flat, Next}
 use Rattle.bezier.specs.declared.types.Span.{Span}
@@ -52,6 +53,6 @@ module _ (x1 x2 t : Float) where
   newton-shown (suc n) Flat u e = bisection-shown
   newton-shown (suc n) (Next v) u e = newton-shown n (turnOf x1 x2 t v) v refl
 
-pub settled-near : (t x1 x2 : Float) → atEnd t ≡ false → (solutionOf t x1 x2) .settled ≡ true → nearOf (clamp01Of x1) (clamp01Of x2) t ((solutionOf t x1 x2) .u) ≡ true
+pub settled-near : SettledNear
 unfolding solutionOf
 settled-near t x1 x2 e = rw e (newton-shown (clamp01Of x1) (clamp01Of x2) t 6 _ t refl)

@@ -1,6 +1,5 @@
 // What the search for u finds, what its steps hand on, and the value with the search behind it.
 ghost use mathlib.Core.Path.{_≡_};
-ghost use mathlib.Core.Bool.{true};
 ghost use Rattle.bezier.specs.Bezier.{plainOf, foundBy, withValue};
 
 // A u, and the search for it: how many x and how many derivatives were evaluated, and whether the last x met the tolerance. derivatives is a byte for the sake of the mark behind it: at a place that is a multiple of four the mark would be read as a word just after it was written as a byte, for which a processor waits.

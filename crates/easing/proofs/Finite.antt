@@ -1,13 +1,13 @@
 -- Every value that an easing answers is finite, and at most 134,217,728 in size. Assumes nothing.
 use Prim.Native.Nat.{ℕ, _≤_}
-use mathlib.Core.Path.{_≡_, refl, subst}
+use mathlib.Core.Path.{refl, subst}
 use mathlib.Core.Bool.{Bool, true, false}
 use mathlib.Core.Option.{Option, none, some}
 use lib.Dec.{T, leb→le, lit≤}
 use lib.Ieee.{Float, isNan, ofBits}
 use lib.Ieee.Fits.{and-l, and-r}
 use Rattle.math.specs.Whole.{Is}
-use Rattle.math.specs.Range.{clamp01Of, isFinite, Within, AtMost}
+use Rattle.math.specs.Range.{clamp01Of, Within, AtMost}
 use Rattle.math.proofs.Choice.{by-test}
 use Rattle.math.proofs.Numbers.{finite-number}
 use Rattle.math.proofs.Ranges.{clamped, within-at-most}
@@ -21,7 +21,6 @@ use Rattle.bezier.specs.Bezier.{cubicBezier}
 use Rattle.curves.proofs.Bounds.{in-power, out-power, in-out-power, in-back, out-back, in-out-back, in-bounce, out-bounce, in-out-bounce, custom-bounce-most, slow-mo-most, steps-within}
 use Rattle.curves.proofs.Circles.{circ-at-most}
 use Rattle.bezier.specs.declared.types.Solved.{Solved}
-use Rattle.bezier.specs.declared.types.Found.{Found}
 use Rattle.bezier.proofs.Answers.{answer-at-most}
 use Rattle.refusal.specs.declared.Refusal.the-variants.{ProgressIsNan}
 use Rattle.easing.specs.declared.answers.Eased.{Eased}
@@ -29,6 +28,7 @@ use Rattle.easing.specs.declared.answers.Eased.the-variants.{Value, Refu
 use Rattle.easing.specs.Kinds.{curveOf}
 use Rattle.easing.specs.Params.{limitF, upTo1024, paramsOf, withinOf}
 use Rattle.easing.specs.Apply.{searchOf, easedAt, applyOf}
+use Rattle.easing.specs.Promises.{ApplyBounded, ApplyFinite}
 use Rattle.easing.specs.declared.kinds.Easing.{Easing}
 use Rattle.easing.specs.declared.kinds.Easing.the-variants.{Linear, EaseInQuad, EaseOutQuad, EaseInOutQuad, EaseInCubic, EaseOutCubic, EaseInOutCubic, EaseInQuart, EaseOutQuart, EaseInOutQuart, EaseInQuint, EaseOutQuint, EaseInOutQuint, EaseInSine, EaseOutSine, EaseInOutSine, EaseInExpo, EaseOutExpo, EaseInOutExpo, EaseInCirc, EaseOutCirc, EaseInOutCirc, EaseInBack, EaseOutBack, EaseInOutBack, EaseInElastic, EaseOutElastic, EaseInOutElastic, EaseInBounce, EaseOutBounce, EaseInOutBounce, CubicBezier, Steps, RoughEase, SlowMo, Wiggle, CustomBounce, ExpoScale}
 
@@ -103,8 +103,8 @@ apply-fine e t =
     by-test Fine (isNan t) (Refused ProgressIsNan) (easedAt (curveOf e) (searchOf e) (withinOf (paramsOf e)) (clamp01Of t)) (λ _. tt)
     (λ h. eased-fine (curveOf e) (searchOf e) (withinOf (paramsOf e)) (clamp01Of t) (bounded (clamp01Of t) (clamped t h) e))
 
-pub apply-bounded : (e : Easing) (t : Float) (f : Found) → applyOf e t ≡ Value f → AtMost 134217728 (f .value)
+pub apply-bounded : ApplyBounded
 apply-bounded e t f h = subst Fine h (apply-fine e t)
 
-pub apply-finite : (e : Easing) (t : Float) (f : Found) → applyOf e t ≡ Value f → T (isFinite (f .value))
+pub apply-finite : ApplyFinite
 apply-finite e t f h = at-most-finite 134217728 (f .value) (apply-bounded e t f h)

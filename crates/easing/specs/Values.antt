@@ -1,4 +1,5 @@
 -- Document 01's answers without request 1's mark: the values alone, or the refusal.
+use mathlib.Core.Path.{_≡_}
 use mathlib.Core.Bool.{Bool}
 use mathlib.Core.Logic.{_⊎_, inl, inr}
 use mathlib.Core.Option.{Option, none, some}
@@ -12,6 +13,7 @@ use Rattle.easing.specs.declared.answers.Eased.{Eased}
 use Rattle.easing.specs.declared.answers.Eased.the-variants.{Value, Refused}
 use Rattle.easing.specs.Kinds.{curveOf}
 use Rattle.easing.specs.Params.{paramsOf, withinOf}
+use Rattle.easing.specs.Apply.{applyOf}
 
 -- what is left of an answer without the search behind it
 abbrev pub valuePart : Eased → Refusal ⊎ Float
@@ -26,3 +28,7 @@ unfoldable pub applyAlone : Easing → Float → Refusal ⊎ Float
 applyAlone e t =
     when (isNan t) (inl ProgressIsNan)
     (curveAlone (curveOf e) (withinOf (paramsOf e)) (clamp01Of t))
+
+-- Request 1: "Values don't change. No new refusals"
+abbrev pub ApplyUnchanged : Type 0
+ApplyUnchanged = (e : Easing) (t : Float) → valuePart (applyOf e t) ≡ applyAlone e t

@@ -1,6 +1,5 @@
 // The value of an easing at a progress.
 ghost use mathlib.Core.Path.{_≡_};
-ghost use mathlib.Core.Bool.{true};
 ghost use Rattle.bezier.specs.Bezier.{plainOf};
 ghost use Rattle.easing.specs.Apply.{limitedOf, applyOf};
 use crate::answers::Eased;

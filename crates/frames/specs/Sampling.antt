@@ -1,6 +1,6 @@
 -- Document 01, "The track": the value of frames at a time in seconds, and by request 1 the search behind it.
 use Prim.Native.Nat.{ℕ, suc, _-_}
-use mathlib.Core.Bool.{Bool, true, not, cond}
+use mathlib.Core.Bool.{Bool, not, cond}
 use mathlib.Core.List.{List, [], _∷_, _++_, map}
 use lib.Dec.{eqb}
 use lib.ListN.{length, drop, getD}

@@ -12,7 +12,7 @@ use lib.Ieee.Fits.{down-pos}
 use lib.Ieee.Order.{round-mono}
 use Rattle.math.specs.Whole.{Is}
 use Rattle.math.specs.Rounded.{_⊕_, _⊖_, _⊗_, zeroF, halfF, oneF, twoF}
-use Rattle.math.specs.Range.{isFinite, clampOf, clamp01Of, Within, AtMost}
+use Rattle.math.specs.Range.{isFinite, clamp01Of, Within, AtMost, ClampBetween, Clamped}
 use Rattle.math.proofs.Choice.{by-test}
 use Rattle.math.proofs.Order.{le-sizes, not-lt-of-le, le-of-not-lt, le-numbers, le-self}
 use Rattle.math.proofs.Upward.{Up, up-none, sub-up, square-up}
@@ -21,7 +21,7 @@ use Rattle.math.proofs.Bounded.{one-within}
 use Rattle.math.proofs.Wholes.{one-is, whole-is, fraction-le}
 
 -- clamp
-pub clamp-between : (x lo hi : Float) → isNan x ≡ false → T (le lo hi) → T (le lo (clampOf x lo hi)) × T (le (clampOf x lo hi) hi)
+pub clamp-between : ClampBetween
 clamp-between x lo hi p h = go (lt x lo) (lt hi x) refl refl
   where
     ends : (isNan lo ≡ false) × (isNan hi ≡ false)
@@ -36,7 +36,7 @@ zero-one : T (le zeroF oneF)
 unfolding le lt eq ofBits
 zero-one = tt
 
-pub clamped : (x : Float) → isNan x ≡ false → Within (clamp01Of x)
+pub clamped : Clamped
 clamped x p = clamp-between x zeroF oneF p zero-one
 
 pub clamp-stays : (x : Float) → Within x → clamp01Of x ≡ x

@@ -1,5 +1,5 @@
 -- Document 01, "The tween" and "Refusal numbers": the calls that read a tween, and those that change it, but for `update`. Each refuses 4 first.
-use mathlib.Core.Bool.{true, false, cond}
+use mathlib.Core.Bool.{false, cond}
 use lib.Ieee.{Float, inf, lt, eq, isNan}
 use Rattle.math.specs.Rounded.{_⊕_, _⊖_, _⊗_, wholeF, zeroF}
 use Rattle.math.specs.Range.{clampOf, clamp01Of, maxZeroOf}
