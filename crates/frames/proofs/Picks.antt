@@ -21,12 +21,12 @@ use Rattle.frames.specs.declared.frame.Keyframe.{Keyframe}
 use Rattle.frames.specs.Limits.{framesWithin, beforeAll, noFrame}
 use Rattle.frames.specs.Sampling.{framesUpTo, lastOf, cutOf, betweenOf, ownOf, pickOf, atOf, sampleOf}
 use Rattle.frames.specs.Inner.{timesOf, counted}
+use Rattle.frames.specs.Promises.{PassedInterval}
 use Rattle.frames.proofs.Rising.{each-fine, rising, time-fine, time-number}
 use Rattle.frames.proofs.Walks.{lead-is, lead-below}
 use Rattle.frames.proofs.Counts.{counted-passed, counted-front}
 
--- the frames of an interval of ascending times are the last at or before t, and the next
-pub passed-interval : (l : List Keyframe) (t : Float) (i : ℕ) → framesWithin l ≡ true → i + 1 < length l → le (getD l i noFrame .time) t ≡ true → le (getD l (i + 1) noFrame .time) t ≡ false → framesUpTo t l ≡ i + 1
+pub passed-interval : PassedInterval
 passed-interval l t i f h a z =
     lead-is (λ (k : Keyframe). le (k .time) t) l (i + 1) (omega arith)
     (λ j b. ⊎-elim (λ (e : j ≡ i). rw e a) (λ (e : j < i). is-true (le (getD l j noFrame .time) t) (earlier j e)) (eq-or-lt-of-le {n = j} {m = i} (omega (arith, b))))

@@ -29,6 +29,7 @@ use Rattle.easing.proofs.Finite.{apply-bounded}
 use Rattle.frames.specs.declared.frame.Keyframe.{Keyframe}
 use Rattle.frames.specs.Limits.{frameWithin, framesWithin, beforeAll, noFrame}
 use Rattle.frames.specs.Sampling.{framesUpTo, firstOf, lastOf, cutOf, spanOf, foundIn, easedOf, localProgress, betweenOf, ownOf, atOf, sampleOf, unsettledOf}
+use Rattle.frames.specs.Promises.{UnsettledMost}
 use Rattle.frames.proofs.Rising.{each-fine, rising, time-fine, time-number, value-fine}
 use Rattle.frames.proofs.Clocks.{Clock, clock-most, time-clock}
 use Rattle.frames.proofs.Walks.{lead-some, lead-below}
@@ -158,6 +159,6 @@ module _ (l : List Keyframe) (fine : framesWithin l ≡ true) (some : 0 < length
       let f : le (lastOf l .time) (firstOf l .time) ≡ false = not-le-of-lt (firstOf l .time) (lastOf l .time) (rising beforeAll l fine 0 (length l - 1) b last-place) in
       rw (after-last secs h, f, is-true (le (lastOf l .time) (lastOf l .time)) (le-self (lastOf l .time) number-last)))
 
-pub unsettled-most : (l : List Keyframe) (times : List Float) → unsettledOf l times ≤ length times
+pub unsettled-most : UnsettledMost
 unfolding unsettledOf
 unsettled-most l times = count-most _ times

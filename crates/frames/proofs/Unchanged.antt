@@ -19,7 +19,7 @@ use Rattle.easing.proofs.Unchanged.{apply-unchanged}
 use Rattle.frames.specs.declared.frame.Keyframe.{Keyframe}
 use Rattle.frames.specs.Limits.{noFrame}
 use Rattle.frames.specs.Sampling.{firstOf, lastOf, cutOf, foundIn, easedOf, localProgress, betweenOf, framesUpTo, ownOf, pickOf, atOf, sampleOf, filledOf}
-use Rattle.frames.specs.Values.{valueIn, betweenAlone, pickAlone, sampleAlone, filledAlone}
+use Rattle.frames.specs.Values.{valueIn, betweenAlone, pickAlone, sampleAlone, filledAlone, SampleUnchanged}
 
 abbrev value : Found → Float
 value f = f .value
@@ -40,7 +40,7 @@ pick-unchanged first last k l t =
     of-picked value (le t (first .time)) (ownOf first) (cond (le (last .time) t) (ownOf last) (betweenOf k l t)) _ _ refl
     (of-picked value (le (last .time) t) (ownOf last) (betweenOf k l t) _ _ refl (between-unchanged k l t))
 
-pub sample-unchanged : (l : List Keyframe) (secs : Float) → sampleOf l secs .value ≡ sampleAlone l secs
+pub sample-unchanged : SampleUnchanged
 unfolding sampleOf sampleAlone
 sample-unchanged l secs =
     let t = cutOf (maxZeroOf secs) (lastOf l .time) in

@@ -2,4 +2,5 @@ pub mod Limits
 pub mod Sampling
 pub mod Pushing
 pub mod Inner
+pub mod Promises
 pub mod Values

@@ -1,5 +1,6 @@
 -- Document 01's samples without request 1's mark: the values alone.
 use Prim.Native.Nat.{_-_}
+use mathlib.Core.Path.{_≡_}
 use mathlib.Core.Bool.{cond}
 use mathlib.Core.List.{List, _++_, map}
 use mathlib.Core.Logic.{_⊎_, inl, inr}
@@ -12,7 +13,7 @@ use Rattle.math.specs.Blend.{blendOf}
 use Rattle.easing.specs.Values.{applyAlone}
 use Rattle.frames.specs.declared.frame.Keyframe.{Keyframe}
 use Rattle.frames.specs.Limits.{noFrame}
-use Rattle.frames.specs.Sampling.{firstOf, lastOf, cutOf, localProgress, framesUpTo}
+use Rattle.frames.specs.Sampling.{firstOf, lastOf, cutOf, localProgress, framesUpTo, sampleOf}
 
 -- a refusal counts as 0
 abbrev pub valueIn : {R : Type 0} → R ⊎ Float → Float
@@ -33,3 +34,7 @@ sampleAlone l secs = cond (eqb (length l) 1) (firstOf l .value) (atAlone l (cutO
 
 unfoldable pub filledAlone : List Keyframe → List Float → List Float → List Float
 filledAlone l times out = map (λ (secs : Float). sampleAlone l secs) times ++ drop (length times) out
+
+-- Request 1: "Values don't change"
+abbrev pub SampleUnchanged : Type 0
+SampleUnchanged = (l : List Keyframe) (secs : Float) → sampleOf l secs .value ≡ sampleAlone l secs
