@@ -18,7 +18,7 @@ use Rattle.curves.specs.Back.{inBack, outBack, inOutBack}
 use Rattle.curves.specs.Bounce.{inBounce, outBounce, inOutBounce, customBounce}
 use Rattle.curves.specs.Stairs.{stepsOf}
 use Rattle.bezier.specs.Bezier.{cubicBezier}
-use Rattle.curves.proofs.Bounds.{in-power, out-power, in-out-power, in-back, out-back, in-out-back, in-bounce, out-bounce, in-out-bounce, custom-bounce-most, slow-mo-most, steps-within}
+use Rattle.curves.proofs.Bounds.{in-power-most, out-power-most, in-out-power-most, in-back, out-back, in-out-back, in-bounce, out-bounce, in-out-bounce, custom-bounce-most, slow-mo-most, steps-within}
 use Rattle.curves.proofs.Circles.{circ-at-most}
 use Rattle.bezier.specs.declared.types.Solved.{Solved}
 use Rattle.bezier.proofs.Answers.{answer-at-most}
@@ -50,18 +50,18 @@ module _ (u : Float) (w : Within u) where
   bounded : (e : Easing) → T (withinOf (paramsOf e)) → Bounded (curveOf e) u
   unfolding curveOf withinOf paramsOf
   bounded Linear h = more 1 u (lit≤ tt) (within-at-most u w)
-  bounded EaseInQuad h = more 1 (inPower quad u) (lit≤ tt) (in-power quad u w)
-  bounded EaseOutQuad h = more 2 (outPower quad u) (lit≤ tt) (out-power quad u w)
-  bounded EaseInOutQuad h = more 16 (inOutPower quad u) (lit≤ tt) (in-out-power quad u w)
-  bounded EaseInCubic h = more 1 (inPower cubic u) (lit≤ tt) (in-power cubic u w)
-  bounded EaseOutCubic h = more 2 (outPower cubic u) (lit≤ tt) (out-power cubic u w)
-  bounded EaseInOutCubic h = more 16 (inOutPower cubic u) (lit≤ tt) (in-out-power cubic u w)
-  bounded EaseInQuart h = more 1 (inPower quart u) (lit≤ tt) (in-power quart u w)
-  bounded EaseOutQuart h = more 2 (outPower quart u) (lit≤ tt) (out-power quart u w)
-  bounded EaseInOutQuart h = more 16 (inOutPower quart u) (lit≤ tt) (in-out-power quart u w)
-  bounded EaseInQuint h = more 1 (inPower quint u) (lit≤ tt) (in-power quint u w)
-  bounded EaseOutQuint h = more 2 (outPower quint u) (lit≤ tt) (out-power quint u w)
-  bounded EaseInOutQuint h = more 16 (inOutPower quint u) (lit≤ tt) (in-out-power quint u w)
+  bounded EaseInQuad h = more 1 (inPower quad u) (lit≤ tt) (in-power-most quad u w)
+  bounded EaseOutQuad h = more 2 (outPower quad u) (lit≤ tt) (out-power-most quad u w)
+  bounded EaseInOutQuad h = more 16 (inOutPower quad u) (lit≤ tt) (in-out-power-most quad u w)
+  bounded EaseInCubic h = more 1 (inPower cubic u) (lit≤ tt) (in-power-most cubic u w)
+  bounded EaseOutCubic h = more 2 (outPower cubic u) (lit≤ tt) (out-power-most cubic u w)
+  bounded EaseInOutCubic h = more 16 (inOutPower cubic u) (lit≤ tt) (in-out-power-most cubic u w)
+  bounded EaseInQuart h = more 1 (inPower quart u) (lit≤ tt) (in-power-most quart u w)
+  bounded EaseOutQuart h = more 2 (outPower quart u) (lit≤ tt) (out-power-most quart u w)
+  bounded EaseInOutQuart h = more 16 (inOutPower quart u) (lit≤ tt) (in-out-power-most quart u w)
+  bounded EaseInQuint h = more 1 (inPower quint u) (lit≤ tt) (in-power-most quint u w)
+  bounded EaseOutQuint h = more 2 (outPower quint u) (lit≤ tt) (out-power-most quint u w)
+  bounded EaseInOutQuint h = more 16 (inOutPower quint u) (lit≤ tt) (in-out-power-most quint u w)
   bounded EaseInSine h = tt
   bounded EaseOutSine h = tt
   bounded EaseInOutSine h = tt

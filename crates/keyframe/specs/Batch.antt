@@ -1,7 +1,7 @@
 -- Document 01, "The track": "Many times at once".
 use Prim.Native.Nat.{ℕ, _<_, _≤_}
 use mathlib.Core.Path.{_≡_}
-use mathlib.Core.Bool.{false, cond}
+use mathlib.Core.Bool.{false}
 use mathlib.Core.List.{List}
 use lib.Dec.{leb, ltb, eqb}
 use lib.ListN.{length, getD}
@@ -23,15 +23,15 @@ batchNumber t times out =
 
 -- "what lies behind it keeps its numbers"; "a refused call .. writes nothing else"
 unfoldable pub batchOut : Track → List Float → List Float → List Float
-batchOut t times out = cond (eqb (batchNumber t times out) 0) (filledOf (framesIn t) times out) out
+batchOut t times out = unless (eqb (batchNumber t times out) 0) out (filledOf (framesIn t) times out)
 
 -- the length of the filled front; "a refused call hands back an empty front"
 unfoldable pub batchCount : Track → List Float → List Float → ℕ
-batchCount t times out = cond (eqb (batchNumber t times out) 0) (length times) 0
+batchCount t times out = unless (eqb (batchNumber t times out) 0) 0 (length times)
 
 -- Request 1: "The batch writes how many of its samples weren't into one more lent number, 0 when refused; document 01's "nothing else" gives way there"
 unfoldable pub batchUnsettled : Track → List Float → List Float → ℕ
-batchUnsettled t times out = cond (eqb (batchNumber t times out) 0) (unsettledOf (framesIn t) times) 0
+batchUnsettled t times out = unless (eqb (batchNumber t times out) 0) 0 (unsettledOf (framesIn t) times)
 
 -- "its promise at each index": an accepted batch has the sample at each time
 abbrev pub BatchAt : Type 0

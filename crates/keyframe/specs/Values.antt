@@ -1,6 +1,5 @@
 -- Document 01's answers without request 1's mark: the values alone, or the refusal.
 use mathlib.Core.Path.{_≡_}
-use mathlib.Core.Bool.{cond}
 use mathlib.Core.List.{List}
 use mathlib.Core.Logic.{_⊎_, inl, inr}
 use lib.Dec.{ltb, eqb}
@@ -23,7 +22,7 @@ valueAtAlone t secs =
     (inr (sampleAlone (framesIn t) secs)))
 
 unfoldable pub batchAlone : Track → List Float → List Float → List Float
-batchAlone t times out = cond (eqb (batchNumber t times out) 0) (filledAlone (framesIn t) times out) out
+batchAlone t times out = unless (eqb (batchNumber t times out) 0) out (filledAlone (framesIn t) times out)
 
 -- Request 1: "Values don't change. No new refusals"
 abbrev pub ValueUnchanged : Type 0
