@@ -19,7 +19,7 @@ solutionOf t x1 x2 = cond (atEnd t) (solvedAt true t) (solveOf (clamp01Of x1) (c
 unfoldable pub cubicBezier : Float → Float → Float → Float → Float → Float
 cubicBezier t x1 y1 x2 y2 = cond (atEnd t) t (sampleCubicOf y1 y2 ((solutionOf t x1 x2) .u))
 
--- Request 1: a value "found without easing", "settled with no evaluations"
+-- a value with no search. Request 1: "other curves, t of 0 or 1 and values found without easing count as settled with no evaluations"
 abbrev pub plainOf : Float → Found
 plainOf v = record { value = v; settled = true; xs = 0; derivatives = 0 }
 
