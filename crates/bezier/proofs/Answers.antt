@@ -8,7 +8,7 @@ use Rattle.math.specs.Range.{isFinite, Within, AtMost}
 use Rattle.math.proofs.Sizes.{at-most-more}
 use Rattle.math.proofs.Ranges.{within-at-most}
 use Rattle.bezier.specs.Curve.{sampleCubicOf}
-use Rattle.bezier.specs.Bezier.{atEnd, foundOf, cubicBezier}
+use Rattle.bezier.specs.Bezier.{atEnd, solutionOf, cubicBezier}
 use Rattle.bezier.proofs.Bounds.{sample-at-most}
 use Rattle.bezier.proofs.Inside.{found-within}
 
@@ -17,7 +17,7 @@ unfolding cubicBezier
 answer-at-most p room t x1 y1 x2 y2 w f1 f2 h1 h2 = go (atEnd t)
   where
     u : Float
-    u = (foundOf t x1 x2) .value
+    u = (solutionOf t x1 x2) .u
 
     go : (b : Bool) → AtMost (1 + 24 * p) (cond b t (sampleCubicOf y1 y2 u))
     go true = at-most-more 1 (1 + 24 * p) t (omega arith) (within-at-most t w)

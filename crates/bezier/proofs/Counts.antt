@@ -1,20 +1,16 @@
 -- How many evaluations the search makes: of x at most one for each Newton step and each bisection, of the derivative at most one for each Newton step. Assumes nothing.
-use Prim.Native.Nat.{ℕ, zero, suc, _+_, _≤_, zero-le}
+use Prim.Native.Nat.{ℕ, zero, suc, _+_, zero-le}
 use mathlib.Core.Bool.{Bool, true, false, cond}
 use native.Mathlib.Omega.{arith}
 use lib.Ieee.{Float}
 use Rattle.math.specs.Range.{clamp01Of}
 use Rattle.bezier.specs.Curve.{sampleCubicOf}
-use Rattle.bezier.specs.Search.{foundAt, cutOf, nearOf, turnOf, bisectOf, bisectionOf, newtonOf, solveOf}
-use Rattle.bezier.specs.Bezier.{atEnd, foundOf}
+use Rattle.bezier.specs.Search.{solvedAt, cutOf, nearOf, turnOf, bisectOf, bisectionOf, newtonOf, solveOf}
+use Rattle.bezier.specs.Bezier.{atEnd, solutionOf}
+use Rattle.bezier.specs.Promises.{AtMostEach, FewEvaluations}
 use Rattle.bezier.specs.declared.types.Turn.{Turn}
 use Rattle.bezier.specs.declared.types.Turn.the-variants.{Near, Flat, Next}
 use Rattle.bezier.specs.declared.types.Span.{Span}
-use Rattle.bezier.specs.declared.types.Found.{Found}
-
--- at most so many x and so many derivatives
-abbrev pub AtMostEach : ℕ → ℕ → Found → Type 0
-AtMostEach x d f = (f .xs ≤ x) × (f .derivatives ≤ d)
 
 module _ (x1 x2 t : Float) where
   bisect-few : (n : ℕ) (near : Bool) (s : Span) → AtMostEach n 0 (bisectOf x1 x2 t n near s)
@@ -38,10 +34,10 @@ module _ (x1 x2 t : Float) where
       let h = newton-few n (turnOf x1 x2 t v) v in
       (omega (arith, h .0), omega (arith, h .1))
 
-pub few-evaluations : (t x1 x2 : Float) → AtMostEach 16 6 (foundOf t x1 x2)
-unfolding foundOf
+pub few-evaluations : FewEvaluations
+unfolding solutionOf
 few-evaluations t x1 x2 = go (atEnd t)
   where
-    go : (b : Bool) → AtMostEach 16 6 (cond b (foundAt true t) (solveOf (clamp01Of x1) (clamp01Of x2) t))
+    go : (b : Bool) → AtMostEach 16 6 (cond b (solvedAt true t) (solveOf (clamp01Of x1) (clamp01Of x2) t))
     go true = (zero-le, zero-le)
     go false = newton-few (clamp01Of x1) (clamp01Of x2) t 6 (turnOf (clamp01Of x1) (clamp01Of x2) t t) t

@@ -15,8 +15,9 @@ use Rattle.math.proofs.Upward.{add-up, mul-up}
 use Rattle.math.proofs.Sizes.{at-most-finite, round-at-most}
 use Rattle.math.proofs.Ranges.{clamped, one-held, within-at-most, within-finite, at-most-within}
 use Rattle.bezier.specs.Curve.{sampleCubicOf, sampleCubicDerivativeOf}
-use Rattle.bezier.specs.Search.{foundAt, tinyF, middleOf, cutOf, nearOf, turnOf, bisectOf, bisectionOf, newtonOf, solveOf}
-use Rattle.bezier.specs.Bezier.{atEnd, foundOf}
+use Rattle.bezier.specs.Search.{solvedAt, tinyF, middleOf, cutOf, nearOf, turnOf, bisectOf, bisectionOf, newtonOf, solveOf}
+use Rattle.bezier.specs.Bezier.{atEnd, solutionOf}
+use Rattle.bezier.specs.Promises.{FoundWithin}
 use Rattle.bezier.specs.declared.types.Turn.{Turn}
 use Rattle.bezier.specs.declared.types.Turn.the-variants.{Near, Flat, Next}
 use Rattle.bezier.specs.declared.types.Span.{Span}
@@ -55,7 +56,7 @@ unfolding lt ofBits
 limit-above-zero = tt
 
 module _ (x1 x2 t : Float) (w1 : Within x1) (w2 : Within x2) (wt : Within t) where
-  bisect-within : (n : ℕ) (near : Bool) (s : Span) → SpanWithin s → Within ((bisectOf x1 x2 t n near s) .value)
+  bisect-within : (n : ℕ) (near : Bool) (s : Span) → SpanWithin s → Within ((bisectOf x1 x2 t n near s) .u)
   unfolding bisectOf
   bisect-within zero near s w = w .2
   bisect-within (suc n) true s w = w .2
@@ -63,7 +64,7 @@ module _ (x1 x2 t : Float) (w1 : Within x1) (w2 : Within x2) (wt : Within t) whe
       let r = cutOf s (sampleCubicOf x1 x2 (s .u)) t in
       bisect-within n (nearOf x1 x2 t (r .u)) r (cut-within s (sampleCubicOf x1 x2 (s .u)) t w)
 
-  bisection-within : Within ((bisectionOf x1 x2 t) .value)
+  bisection-within : Within ((bisectionOf x1 x2 t) .u)
   bisection-within = bisect-within 10 _ _ (zero-within, one-within, wt)
 
   turn-within : (u : Float) → Within u → NextWithin (turnOf x1 x2 t u)
@@ -86,18 +87,18 @@ module _ (x1 x2 t : Float) (w1 : Within x1) (w2 : Within x2) (wt : Within t) whe
           let f : T (isFinite d) = at-most-finite 60 d k in
           clamped (u ⊖ x ⊘ d) (sub-number binary32 u (x ⊘ d) (within-finite u w) (div-number binary32 x d (at-most-finite 26 x m) f (not-zero d tinyF f limit-above-zero h)))
 
-  newton-within : (n : ℕ) (turn : Turn) (u : Float) → NextWithin turn → Within u → Within ((newtonOf x1 x2 t n turn u) .value)
+  newton-within : (n : ℕ) (turn : Turn) (u : Float) → NextWithin turn → Within u → Within ((newtonOf x1 x2 t n turn u) .u)
   unfolding newtonOf
   newton-within zero turn u v w = bisection-within
   newton-within (suc n) Near u v w = w
   newton-within (suc n) Flat u v w = bisection-within
   newton-within (suc n) (Next v) u w z = newton-within n (turnOf x1 x2 t v) v (turn-within v w) w
 
-pub found-within : (t x1 x2 : Float) → Within t → T (isFinite x1) → T (isFinite x2) → Within ((foundOf t x1 x2) .value)
-unfolding foundOf
+pub found-within : FoundWithin
+unfolding solutionOf
 found-within t x1 x2 w p q = go (atEnd t)
   where
-    go : (b : Bool) → Within (cond b (foundAt true t) (solveOf (clamp01Of x1) (clamp01Of x2) t) .value)
+    go : (b : Bool) → Within (cond b (solvedAt true t) (solveOf (clamp01Of x1) (clamp01Of x2) t) .u)
     go true = w
     go false =
         let v1 = clamped x1 (finite-number x1 p) in

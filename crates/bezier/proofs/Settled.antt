@@ -7,11 +7,12 @@ use Rattle.math.specs.Rounded.{_⊖_, _⊘_}
 use Rattle.math.specs.Range.{clamp01Of, sizeOf}
 use Rattle.bezier.specs.Curve.{sampleCubicOf, sampleCubicDerivativeOf}
 use Rattle.bezier.specs.Search.{tinyF, cutOf, missOf, nearOf, turnOf, bisectOf, bisectionOf, newtonOf}
-use Rattle.bezier.specs.Bezier.{atEnd, foundOf}
+use Rattle.bezier.specs.Bezier.{solutionOf}
+use Rattle.bezier.specs.Promises.{SettledNear}
 use Rattle.bezier.specs.declared.types.Turn.{Turn}
 use Rattle.bezier.specs.declared.types.Turn.the-variants.{Near, Flat, Next}
 use Rattle.bezier.specs.declared.types.Span.{Span}
-use Rattle.bezier.specs.declared.types.Found.{Found}
+use Rattle.bezier.specs.declared.types.Solved.{Solved}
 
 abbrev isNear : Turn → Bool
 isNear Near = true
@@ -19,8 +20,8 @@ isNear Flat = false
 isNear (Next v) = false
 
 module _ (x1 x2 t : Float) where
-  abbrev Shown : Found → Type 0
-  Shown f = f .settled ≡ true → nearOf x1 x2 t (f .value) ≡ true
+  abbrev Shown : Solved → Type 0
+  Shown f = f .settled ≡ true → nearOf x1 x2 t (f .u) ≡ true
 
   bisect-shown : (n : ℕ) (near : Bool) (s : Span) → near ≡ nearOf x1 x2 t (s .u) → Shown (bisectOf x1 x2 t n near s)
   unfolding bisectOf
@@ -52,6 +53,6 @@ module _ (x1 x2 t : Float) where
   newton-shown (suc n) Flat u e = bisection-shown
   newton-shown (suc n) (Next v) u e = newton-shown n (turnOf x1 x2 t v) v refl
 
-pub settled-near : (t x1 x2 : Float) → atEnd t ≡ false → (foundOf t x1 x2) .settled ≡ true → nearOf (clamp01Of x1) (clamp01Of x2) t ((foundOf t x1 x2) .value) ≡ true
-unfolding foundOf
+pub settled-near : SettledNear
+unfolding solutionOf
 settled-near t x1 x2 e = rw e (newton-shown (clamp01Of x1) (clamp01Of x2) t 6 _ t refl)

@@ -7,20 +7,20 @@ use lib.Ieee.{Float, lt}
 use Rattle.math.specs.Rounded.{_⊖_, _⊘_}
 use Rattle.math.specs.Range.{clamp01Of, sizeOf}
 use Rattle.bezier.specs.Curve.{sampleCubicOf, sampleCubicDerivativeOf}
-use Rattle.bezier.specs.Search.{foundAt, after, tinyF, cutOf, missOf, nearOf, turnOf, bisectOf, bisectionOf, newtonOf}
+use Rattle.bezier.specs.Search.{solvedAt, after, tinyF, cutOf, missOf, nearOf, turnOf, bisectOf, bisectionOf, newtonOf}
 use Rattle.bezier.specs.declared.types.Turn.{Turn}
 use Rattle.bezier.specs.declared.types.Turn.the-variants.{Near, Flat, Next}
 use Rattle.bezier.specs.declared.types.Span.{Span}
-use Rattle.bezier.specs.declared.types.Found.{Found}
+use Rattle.bezier.specs.declared.types.Solved.{Solved}
 
 -- an answer whose counts are those of f
-pub counts : (f : Found) (x d : ℕ) {g : Found} → f ≡ g → x ≡ f .xs → d ≡ f .derivatives → record { value = f .value; settled = f .settled; xs = x; derivatives = d } ≡ g
+pub counts : (f : Solved) (x d : ℕ) {g : Solved} → f ≡ g → x ≡ f .xs → d ≡ f .derivatives → record { u = f .u; settled = f .settled; xs = x; derivatives = d } ≡ g
 counts f x d e p q = rw (p, q) e
 
-pub after-none : (f : Found) → after 0 0 f ≡ f
+pub after-none : (f : Solved) → after 0 0 f ≡ f
 after-none f = counts f (0 + f .xs) (0 + f .derivatives) refl (omega arith) (omega arith)
 
-pub after-both : (x d y e : ℕ) (f : Found) → after (x + y) (d + e) f ≡ after x d (after y e f)
+pub after-both : (x d y e : ℕ) (f : Solved) → after (x + y) (d + e) f ≡ after x d (after y e f)
 after-both x d y e f = counts (after x d (after y e f)) (x + y + f .xs) (d + e + f .derivatives) refl (omega arith) (omega arith)
 
 -- a Newton step, by its tests
@@ -43,7 +43,7 @@ left : (n k : ℕ) → k < n → n - k ≡ suc (n - (k + 1))
 left n k h = omega arith
 
 module _ (x1 x2 t : Float) (n k : ℕ) where
-  pub newton-near : (u : Float) → k < n → turnOf x1 x2 t u ≡ Near → newtonOf x1 x2 t (n - k) (turnOf x1 x2 t u) u ≡ after 1 0 (foundAt true u)
+  pub newton-near : (u : Float) → k < n → turnOf x1 x2 t u ≡ Near → newtonOf x1 x2 t (n - k) (turnOf x1 x2 t u) u ≡ after 1 0 (solvedAt true u)
   unfolding newtonOf
   newton-near u h e = rw (left n k h, e)
 
@@ -65,7 +65,7 @@ module _ (x1 x2 t : Float) (n k : ℕ) where
   pub newton-spent : (u : Float) (turn : Turn) (made : ℕ) → made ≡ k → n ≡ k → after made made (bisectionOf x1 x2 t) ≡ after k k (newtonOf x1 x2 t (n - k) turn u)
   newton-spent u turn made m e = rw m (ap (after k k) (spent u turn (omega (arith, e))))
 
-  pub bisect-near : (s : Span) → k < n → nearOf x1 x2 t (s .u) ≡ true → bisectOf x1 x2 t (n - k) (nearOf x1 x2 t (s .u)) s ≡ after 1 0 (foundAt true (s .u))
+  pub bisect-near : (s : Span) → k < n → nearOf x1 x2 t (s .u) ≡ true → bisectOf x1 x2 t (n - k) (nearOf x1 x2 t (s .u)) s ≡ after 1 0 (solvedAt true (s .u))
   unfolding bisectOf
   bisect-near s h e = rw (left n k h, e)
 
@@ -74,6 +74,6 @@ module _ (x1 x2 t : Float) (n k : ℕ) where
   unfolding bisectOf
   bisect-next s r h e q = rw (left n k h, e, q)
 
-  pub bisect-spent : (s : Span) (near : Bool) → n - k ≡ 0 → bisectOf x1 x2 t (n - k) near s ≡ foundAt false (s .u)
+  pub bisect-spent : (s : Span) (near : Bool) → n - k ≡ 0 → bisectOf x1 x2 t (n - k) near s ≡ solvedAt false (s .u)
   unfolding bisectOf
   bisect-spent s near e = rw e

@@ -1,3 +1,4 @@
 pub mod Curve
 pub mod Search
 pub mod Bezier
+pub mod Promises

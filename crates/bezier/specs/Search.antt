@@ -8,19 +8,15 @@ use Rattle.bezier.specs.Curve.{sampleCubicOf, sampleCubicDerivativeOf}
 use Rattle.bezier.specs.declared.types.Turn.{Turn}
 use Rattle.bezier.specs.declared.types.Turn.the-variants.{Near, Flat, Next}
 use Rattle.bezier.specs.declared.types.Span.{Span}
-use Rattle.bezier.specs.declared.types.Found.{Found}
+use Rattle.bezier.specs.declared.types.Solved.{Solved}
 
--- found with no evaluation
-abbrev pub foundAt : Bool → Float → Found
-foundAt b v = record { value = v; settled = b; xs = 0; derivatives = 0 }
+-- u, settled or not, with no evaluation
+abbrev pub solvedAt : Bool → Float → Solved
+solvedAt b u = record { u = u; settled = b; xs = 0; derivatives = 0 }
 
--- found after so many x and so many derivatives more
-abbrev pub after : ℕ → ℕ → Found → Found
-after x d f = record { value = f .value; settled = f .settled; xs = x + f .xs; derivatives = d + f .derivatives }
-
--- another value, by the same search
-abbrev pub withValue : Float → Found → Found
-withValue v f = record { value = v; settled = f .settled; xs = f .xs; derivatives = f .derivatives }
+-- solved after so many x and so many derivatives more
+abbrev pub after : ℕ → ℕ → Solved → Solved
+after x d s = record { u = s .u; settled = s .settled; xs = x + s .xs; derivatives = d + s .derivatives }
 
 -- 1e-6
 abbrev pub tinyF : Float
@@ -50,26 +46,26 @@ module _ (x1 x2 t : Float) where
       cond (nearOf u) Near (cond (lt (sizeOf derivative) tinyF) Flat (Next (clamp01Of (u ⊖ missOf u ⊘ derivative))))
 
   -- up to so many bisections of s, where `near` says whether x is near at its u; after the last no x is evaluated
-  unfoldable pub bisectOf : ℕ → Bool → Span → Found
-  bisectOf zero near s = foundAt false (s .u)
-  bisectOf (suc n) true s = after 1 0 (foundAt true (s .u))
+  unfoldable pub bisectOf : ℕ → Bool → Span → Solved
+  bisectOf zero near s = solvedAt false (s .u)
+  bisectOf (suc n) true s = after 1 0 (solvedAt true (s .u))
   bisectOf (suc n) false s = let r = cutOf s (sampleCubicOf x1 x2 (s .u)) t in after 1 0 (bisectOf n (nearOf (r .u)) r)
 
   -- "up to 10 bisections", the first at u
-  abbrev pub bisectFrom : Float → Found
+  abbrev pub bisectFrom : Float → Solved
   bisectFrom u = bisectOf 10 (nearOf u) (record { low = zeroF; high = oneF; u = u })
 
   -- "then .., again from u = t"
-  abbrev pub bisectionOf : Found
+  abbrev pub bisectionOf : Solved
   bisectionOf = bisectFrom t
 
   -- up to so many Newton steps, where `turn` is the step from u; after the last the step from its u is not made
-  unfoldable pub newtonOf : ℕ → Turn → Float → Found
+  unfoldable pub newtonOf : ℕ → Turn → Float → Solved
   newtonOf zero turn u = bisectionOf
-  newtonOf (suc n) Near u = after 1 0 (foundAt true u)
+  newtonOf (suc n) Near u = after 1 0 (solvedAt true u)
   newtonOf (suc n) Flat u = after 1 1 bisectionOf
   newtonOf (suc n) (Next v) u = after 1 1 (newtonOf n (turnOf v) v)
 
   -- "up to 6 Newton steps from u = t"
-  abbrev pub solveOf : Found
+  abbrev pub solveOf : Solved
   solveOf = newtonOf 6 (turnOf t) t

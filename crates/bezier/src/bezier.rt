@@ -12,6 +12,6 @@ pub fn cubic_bezier(t: f32, x1: f32, y1: f32, x2: f32, y2: f32) -> Found
     if (t == 0.0) | (t == 1.0) {
         return Found::plain(t);
     }
-    let found = solve(math::clamp01(x1), math::clamp01(x2), t);
-    found.with_value(sample_cubic(y1, y2, found.value))
+    let solved = solve(math::clamp01(x1), math::clamp01(x2), t);
+    solved.found(sample_cubic(y1, y2, solved.u))
 }

@@ -4,7 +4,7 @@ ghost use Prim.Native.Nat.{_≤_};
 ghost use Rattle.bezier.specs.Search.{after, turnOf, middleOf, cutOf, bisectFrom, solveOf};
 use crate::curve::sample_cubic;
 use crate::curve::sample_cubic_derivative;
-use crate::types::Found;
+use crate::types::Solved;
 use crate::types::Span;
 use crate::types::Turn;
 
@@ -52,7 +52,7 @@ fn cut(s: Span, x: f32, t: f32) -> Span
 }
 
 // Up to 10 bisections, the first at `from`, behind so many Newton steps. The u of the last is taken unseen: its x is not worked out.
-fn bisect(x1: f32, x2: f32, t: f32, from: f32, steps: u8) -> Found
+fn bisect(x1: f32, x2: f32, t: f32, from: f32, steps: u8) -> Solved
     requires { ⌜ steps ≤ 6 ⌝ }
     ensures { λ r. ⌜ r ≡ after steps steps (bisectFrom x1 x2 t from) ⌝ }
 {
@@ -65,8 +65,8 @@ fn bisect(x1: f32, x2: f32, t: f32, from: f32, steps: u8) -> Found
         let u = s.u;
         let x = sample_cubic(x1, x2, u);
         if math::size(x - t) < TOLERANCE {
-            return Found {
-                value: u,
+            return Solved {
+                u,
                 settled: true,
                 xs: steps as u32 + k + 1,
                 derivatives: steps,
@@ -74,8 +74,8 @@ fn bisect(x1: f32, x2: f32, t: f32, from: f32, steps: u8) -> Found
         }
         s = cut(s, x, t);
     }
-    Found {
-        value: s.u,
+    Solved {
+        u: s.u,
         settled: false,
         xs: steps as u32 + 10,
         derivatives: steps,
@@ -83,7 +83,7 @@ fn bisect(x1: f32, x2: f32, t: f32, from: f32, steps: u8) -> Found
 }
 
 // Newton steps from t, each with an x and a derivative; where they do not end near enough, bisections, again from t.
-pub fn solve(x1: f32, x2: f32, t: f32) -> Found
+pub fn solve(x1: f32, x2: f32, t: f32) -> Solved
     ensures { λ r. ⌜ r ≡ solveOf x1 x2 t ⌝ }
 {
     let mut u = t;
@@ -91,8 +91,8 @@ pub fn solve(x1: f32, x2: f32, t: f32) -> Found
     while made < 6 {
         match newton_turn(x1, x2, t, u) {
             Turn::Near => {
-                return Found {
-                    value: u,
+                return Solved {
+                    u,
                     settled: true,
                     xs: made as u32 + 1,
                     derivatives: made,

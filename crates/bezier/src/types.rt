@@ -1,9 +1,30 @@
-// What the search for u finds, and what its steps hand on.
+// What the search for u finds, what its steps hand on, and the value with the search behind it.
 ghost use mathlib.Core.Path.{_≡_};
-ghost use mathlib.Core.Bool.{true};
-ghost use Rattle.bezier.specs.Search.{foundAt, withValue};
+ghost use Rattle.bezier.specs.Bezier.{plainOf, foundBy, withValue};
 
-// A value, and the search behind it: how many x and how many derivatives were evaluated, and whether the last x met the tolerance. derivatives is a byte for the sake of the mark behind it: at a place that is a multiple of four the mark would be read as a word just after it was written as a byte, for which a processor waits.
+// A u, and the search for it: how many x and how many derivatives were evaluated, and whether the last x met the tolerance. derivatives is a byte for the sake of the mark behind it: at a place that is a multiple of four the mark would be read as a word just after it was written as a byte, for which a processor waits.
+pub struct Solved {
+    pub u: f32,
+    pub xs: u32,
+    pub derivatives: u8,
+    pub settled: bool,
+}
+
+impl Solved {
+    // The value at u.
+    pub fn found(self, value: f32) -> Found
+        ensures { λ r. ⌜ r ≡ foundBy self value ⌝ }
+    {
+        Found {
+            value,
+            settled: self.settled,
+            xs: self.xs,
+            derivatives: self.derivatives,
+        }
+    }
+}
+
+// A value, and the search behind it, as in Solved.
 pub struct Found {
     pub value: f32,
     pub xs: u32,
@@ -14,7 +35,7 @@ pub struct Found {
 impl Found {
     // Found without a search.
     pub fn plain(value: f32) -> Found
-        ensures { λ r. ⌜ r ≡ foundAt true value ⌝ }
+        ensures { λ r. ⌜ r ≡ plainOf value ⌝ }
     {
         Found {
             value,

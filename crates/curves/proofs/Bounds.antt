@@ -17,7 +17,7 @@ use Rattle.math.proofs.Wholes.{whole-is, power-is}
 use Rattle.math.proofs.Upward.{Up, mul-up, max-zero-up}
 use Rattle.math.proofs.Sizes.{AtLeast, is-at-most, is-at-least, at-most-number, at-most-more, at-most-finite, add-at-most, mul-at-most, one-more}
 use Rattle.math.proofs.Ranges.{within-at-most, rest, less-one, turned, clamped}
-use Rattle.curves.specs.Powers.{Power, quad, cubic, quart, quint, powi, timesT, leadOf, inPower, outPower, inOutPower}
+use Rattle.curves.specs.Powers.{Power, quad, cubic, quart, quint, powi, timesT, leadOf, InPowerMost, OutPowerMost, InOutPowerMost}
 use Rattle.curves.specs.Back.{backC1, backC2, backC3, inBack, outBack, inOutBack}
 use Rattle.curves.specs.Bounce.{bounceN1, bounceD1, arcOf, outBounce, inBounce, inOutBounce, customBounce}
 use Rattle.curves.specs.Slow.{slowPart, edgeOf, midOf, fromOf, slowAt, slowMo}
@@ -52,21 +52,18 @@ lead-most cubic = lit≤ tt
 lead-most quart = lit≤ tt
 lead-most quint = lit≤ tt
 
-module _ (p : Power) (t : Float) (w : Within t) where
-  k : AtMost 1 t
-  k = within-at-most t w
+pub in-power-most : InPowerMost
+in-power-most p t w = times-t p 1 (lit≤ tt) t t (within-at-most t w) (within-at-most t w)
 
-  pub in-power : AtMost 1 (inPower p t)
-  in-power = times-t p 1 (lit≤ tt) t t k k
+pub out-power-most : OutPowerMost
+out-power-most p t w = less 2 (lit≤ tt) 1 1 oneF (powi p (oneF ⊖ t)) (lit≤ tt) one-most (powi-most p (oneF ⊖ t) (within-at-most (oneF ⊖ t) (rest t w)))
 
-  pub out-power : AtMost 2 (outPower p t)
-  out-power = less 2 (lit≤ tt) 1 1 oneF (powi p (oneF ⊖ t)) (lit≤ tt) one-most (powi-most p (oneF ⊖ t) (within-at-most (oneF ⊖ t) (rest t w)))
-
-  pub in-out-power : AtMost 16 (inOutPower p t)
-  in-out-power =
-      by-test (AtMost 16) (lt t halfF) _ _ (λ h. times-t p 16 (lit≤ tt) (leadOf p ⊗ t) t (shrunk 16 (lit≤ tt) (leadOf p) t (lead-most p) k) k)
-      (λ h. less 16 (lit≤ tt) 1 1 oneF (powi p (neg twoF ⊗ t ⊕ twoF) ⊘ twoF) (lit≤ tt) one-most
-      (over 1 (lit≤ tt) 1 1 (powi p (neg twoF ⊗ t ⊕ twoF)) twoF (lit≤ tt) (powi-most p (neg twoF ⊗ t ⊕ twoF) (turned t w h)) two-least))
+pub in-out-power-most : InOutPowerMost
+in-out-power-most p t w =
+    let k : AtMost 1 t = within-at-most t w in
+    by-test (AtMost 16) (lt t halfF) _ _ (λ h. times-t p 16 (lit≤ tt) (leadOf p ⊗ t) t (shrunk 16 (lit≤ tt) (leadOf p) t (lead-most p) k) k)
+    (λ h. less 16 (lit≤ tt) 1 1 oneF (powi p (neg twoF ⊗ t ⊕ twoF) ⊘ twoF) (lit≤ tt) one-most
+    (over 1 (lit≤ tt) 1 1 (powi p (neg twoF ⊗ t ⊕ twoF)) twoF (lit≤ tt) (powi-most p (neg twoF ⊗ t ⊕ twoF) (turned t w h)) two-least))
 
 -- Back
 c1-most : AtMost 2 backC1

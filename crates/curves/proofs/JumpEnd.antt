@@ -26,7 +26,7 @@ use Rattle.math.proofs.Upward.{Up, up-none, round-up}
 use Rattle.math.proofs.Sizes.{is-at-most, at-most-finite, round-at-most, mul-at-most}
 use Rattle.math.proofs.Zeros.{none-equal, unlike-clear, either-zero-over}
 use Rattle.math.proofs.Ranges.{one-held, clamp-stays, at-most-within, within-at-most}
-use Rattle.curves.specs.Stairs.{countOf, stairsOf, stepsOf, floorOf, jumpEndOf, isWhole}
+use Rattle.curves.specs.Stairs.{countOf, stairsOf, stepsOf, floorOf, jumpEndOf, isWhole, StepsJumpEnd}
 
 -- a value of 18 binary places
 abbrev place : ℕ → Float
@@ -210,7 +210,7 @@ not-above-none false m e u h = none (m * up e) (down e) (ltb-false (0 * 1 * down
     none : (a d : ℕ) → a * 1 ≤ 0 * 1 * d → a ≡ 0
     none a d h = omega arith
 
-pub steps-jump-end : (t : Float) (n : ℕ) → Within t → n ≤ 65536 → eq (stepsOf t n) (jumpEndOf t n) ≡ isWhole (t ⊗ countOf n)
+pub steps-jump-end : StepsJumpEnd
 steps-jump-end t n w l = go (lt zeroF t) refl
   where
     finite : (t : Float) → AtMost 1 t → Up t → lt zeroF t ≡ false → eq (stepsOf t n) (jumpEndOf t n) ≡ isWhole (t ⊗ countOf n)

@@ -16,7 +16,7 @@ use Rattle.math.specs.Rounded.{f32, zeroF, oneF}
 use Rattle.math.specs.Range.{Within}
 use Rattle.math.proofs.Fitting.{few-digits, fine-grained}
 use Rattle.math.proofs.Wholes.{zero-is, one-is}
-use Rattle.curves.specs.Root.{Encloses, Root, SquareRoot, floatAt, scaledOf, placeOf, rootFrom, rootAt, sqrtOf}
+use Rattle.curves.specs.Root.{Encloses, Root, SquareRoot, floatAt, scaledOf, placeOf, rootFrom, rootAt, sqrtOf, SqrtIs, SqrtUnique, SqrtOnly, SqrtWithin}
 use Rattle.curves.proofs.Nearest.{root-found, nearest-same}
 use Rattle.curves.proofs.Scaled.{cut, placed, rooted, place-same, root-at-most}
 
@@ -35,7 +35,7 @@ root-is (fin false (suc m) e) f h k =
     let p = placed (suc m) e (zero-lt-suc m) (few-digits binary32 false (suc m) e f) (fine-grained binary32 false m e f) in
     rooted (fin false (suc m) e) (cut n) (placeOf n) (rootFrom 24 (cut n) 0) (p .1) (p .0) (root-found (cut n) (p .0 .0) (p .0 .1))
 
-pub sqrt-is : (x : Float) → T (fits binary32 x) → Within x → SquareRoot x (sqrtOf x)
+pub sqrt-is : SqrtIs
 unfolding sqrtOf
 sqrt-is x f w = record { of-zero = λ h. rw h; above-zero = λ h. rw h (root-is x f h (w .1)) }
 
@@ -54,14 +54,14 @@ same-root x r r′ a b =
     let q : a .q ≡ b .q = nearest-same (a .n) (a .q) (b .q) (a .nearest) m in
     a .result ∙ ap (λ (k : ℕ). floatAt k (a .j)) q ∙ ap (floatAt (b .q)) j ∙ sym (b .result)
 
-pub sqrt-unique : (x r r′ : Float) → SquareRoot x r → SquareRoot x r′ → r ≡ r′
+pub sqrt-unique : SqrtUnique
 sqrt-unique x r r′ a b = go (lt zeroF x) refl
   where
     go : (t : Bool) → lt zeroF x ≡ t → r ≡ r′
     go true h = same-root x r r′ (a .above-zero h) (b .above-zero h)
     go false h = a .of-zero h ∙ sym (b .of-zero h)
 
-pub sqrt-only : (x r : Float) → T (fits binary32 x) → Within x → SquareRoot x r → r ≡ sqrtOf x
+pub sqrt-only : SqrtOnly
 sqrt-only x r f w s = sqrt-unique x r (sqrtOf x) s (sqrt-is x f w)
 
 -- from 0 to 1, as fractions
@@ -75,7 +75,7 @@ root-within x r h a =
     subst⁻¹ Within (a .result) (value-within (floatAt (a .q) (a .j)) (a .q * 2 ^ a .j) (2 ^ 149) (pow-pos 149) (odd-sign 24 false (a .q) (a .j) 149)
     (root-at-most (a .n) (a .j) (a .q) (a .low) (le-trans (le-of-eq (sym (mul-one (a .n * 2 ^ (2 * a .j))))) k) (a .nearest)))
 
-pub sqrt-within : (x : Float) → T (fits binary32 x) → Within x → Within (sqrtOf x)
+pub sqrt-within : SqrtWithin
 sqrt-within x f w = go (sqrt-is x f w) (lt zeroF x) refl
   where
     go : SquareRoot x (sqrtOf x) → (b : Bool) → lt zeroF x ≡ b → Within (sqrtOf x)

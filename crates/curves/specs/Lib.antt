@@ -1,5 +1,6 @@
 pub mod Powers
 pub mod Root
+pub mod Inner
 pub mod Circ
 pub mod Back
 pub mod Bounce

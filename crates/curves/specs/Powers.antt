@@ -2,6 +2,7 @@
 use mathlib.Core.Bool.{cond}
 use lib.Ieee.{Float, lt, neg}
 use Rattle.math.specs.Rounded.{_⊕_, _⊖_, _⊗_, _⊘_, f32, halfF, oneF, twoF}
+use Rattle.math.specs.Range.{Within, AtMost}
 
 pub data Power : Type 0 where
   quad cubic quart quint : Power
@@ -38,3 +39,13 @@ outPower p t = oneF ⊖ powi p (oneF ⊖ t)
 -- `2.0 * t * t ..` below a half, and `1.0 - powi(-2.0 * t + 2.0, p) / 2.0` from there
 abbrev pub inOutPower : Power → Float → Float
 inOutPower p t = cond (lt t halfF) (timesT p (leadOf p ⊗ t) t) (oneF ⊖ powi p (neg twoF ⊗ t ⊕ twoF) ⊘ twoF)
+
+-- "Facts needed for several powers .. are proved once over the power": how large the curves are
+abbrev pub InPowerMost : Type 0
+InPowerMost = (p : Power) (t : Float) → Within t → AtMost 1 (inPower p t)
+
+abbrev pub OutPowerMost : Type 0
+OutPowerMost = (p : Power) (t : Float) → Within t → AtMost 2 (outPower p t)
+
+abbrev pub InOutPowerMost : Type 0
+InOutPowerMost = (p : Power) (t : Float) → Within t → AtMost 16 (inOutPower p t)

@@ -1,11 +1,12 @@
--- Document 01, "Easing": "Square root: IEEE 754's, for 0 to 1; an inner step, not a public call". `SquareRoot` is the promise, and `sqrtOf` computes the one float that keeps it: proofs/Roots shows both.
+-- Document 01, "Easing": "Square root: IEEE 754's, for 0 to 1; an inner step, not a public call". `SquareRoot` is the promise, and `sqrtOf` computes the one float that keeps it.
 use mathlib.Core.Path.{_≡_}
 use mathlib.Core.Bool.{true, false, cond}
 use Prim.Native.Nat.{ℕ, zero, suc, _+_, _-_, _*_, _/_, _^_, _<_, _≤_}
-use lib.Dec.{ltb}
-use lib.Ieee.{Float, nan, inf, fin, up, down, odd, size, lt}
+use lib.Dec.{T, ltb}
+use lib.Ieee.{Float, nan, inf, fin, binary32, fits, up, down, odd, size, lt}
 use lib.Ieee.Exact.{HasValue}
 use Rattle.math.specs.Rounded.{zeroF}
+use Rattle.math.specs.Range.{Within}
 
 -- "the returned significand, doubled, less and plus one, squared, encloses the scaled operand": q is the whole number nearest to the root of n
 pub record Encloses (q n : ℕ) : Type 0 where
@@ -32,10 +33,6 @@ pub record SquareRoot (x r : Float) : Type 0 where
   pub of-zero : lt zeroF x ≡ false → r ≡ x
   pub above-zero : lt zeroF x ≡ true → Root x r
 
--- the inner function's part of it: r is the root of sig * 2 ^ place smallest values, 2 ^ -149 each
-abbrev pub RootOf : ℕ → ℕ → Float → Type 0
-RootOf sig place r = (x : Float) → HasValue x false (sig * 2 ^ place) (2 ^ 149) → Root x r
-
 -- x * 2 ^ 298, which is whole for every finite x of binary32
 abbrev pub scaledOf : Float → ℕ
 scaledOf nan = 0
@@ -58,3 +55,18 @@ rootAt n j = floatAt (rootFrom 24 (n / 2 ^ (2 * j)) 0) j
 -- the square root of an x from 0 to 1
 unfoldable pub sqrtOf : Float → Float
 sqrtOf x = cond (lt zeroF x) (let n = scaledOf x in rootAt n (placeOf n)) x
+
+-- it keeps the promise, at each f32 from 0 to 1
+abbrev pub SqrtIs : Type 0
+SqrtIs = (x : Float) → T (fits binary32 x) → Within x → SquareRoot x (sqrtOf x)
+
+-- no two floats keep it, so that no other does
+abbrev pub SqrtUnique : Type 0
+SqrtUnique = (x r r′ : Float) → SquareRoot x r → SquareRoot x r′ → r ≡ r′
+
+abbrev pub SqrtOnly : Type 0
+SqrtOnly = (x r : Float) → T (fits binary32 x) → Within x → SquareRoot x r → r ≡ sqrtOf x
+
+-- the root is from 0 to 1 itself
+abbrev pub SqrtWithin : Type 0
+SqrtWithin = (x : Float) → T (fits binary32 x) → Within x → Within (sqrtOf x)

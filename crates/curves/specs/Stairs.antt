@@ -1,10 +1,11 @@
 -- Document 01, "Easing": "Steps: 0 at t = 0; else ceil(t·n)/n, n at least 1, clamped. W3C's jump-end takes floor."
+use mathlib.Core.Path.{_≡_}
 use mathlib.Core.Bool.{Bool, true, false, cond}
-use Prim.Native.Nat.{ℕ, _+_, _-_, _*_, _/_, _%_, max}
+use Prim.Native.Nat.{ℕ, _+_, _-_, _*_, _/_, _%_, _≤_, max}
 use lib.Dec.{eqb}
 use lib.Ieee.{Float, nan, inf, fin, up, down, neg, eq}
 use Rattle.math.specs.Rounded.{_⊗_, _⊘_, wholeF, zeroF}
-use Rattle.math.specs.Range.{clamp01Of}
+use Rattle.math.specs.Range.{clamp01Of, Within}
 use Rattle.math.specs.Whole.{ceilOf}
 
 -- the number of steps as a float, at least 1
@@ -34,3 +35,7 @@ abbrev pub isWhole : Float → Bool
 isWhole nan = false
 isWhole (inf s) = false
 isWhole (fin s m e) = eqb (m * up e % down e) 0
+
+-- "The two agree exactly where the rounded product t·n is whole": at each t from 0 to 1 and each n that is not refused
+abbrev pub StepsJumpEnd : Type 0
+StepsJumpEnd = (t : Float) (n : ℕ) → Within t → n ≤ 65536 → eq (stepsOf t n) (jumpEndOf t n) ≡ isWhole (t ⊗ countOf n)

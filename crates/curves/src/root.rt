@@ -3,7 +3,8 @@
 ghost use mathlib.Core.Path.{_≡_};
 ghost use Prim.Native.Nat.{_<_, _≤_};
 ghost use Rattle.math.specs.Range.{Within};
-ghost use Rattle.curves.specs.Root.{Encloses, RootOf, sqrtOf};
+ghost use Rattle.curves.specs.Root.{Encloses, sqrtOf};
+ghost use Rattle.curves.specs.Inner.{RootOf};
 
 // The whole number nearest to the root of n, which is from 2 ^ 46 to (2 ^ 24 - 1) * 2 ^ 24, so that
 // the root has 24 binary digits. No root is half way between two whole numbers.

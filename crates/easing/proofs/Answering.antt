@@ -6,8 +6,9 @@ use mathlib.Core.Option.{Option, none, some}
 use lib.Dec.{T, eqb}
 use lib.Ieee.{Float, isNan, le, lt, eq, ofBits}
 use Rattle.math.specs.Range.{clamp01Of}
+use Rattle.bezier.specs.declared.types.Solved.{Solved}
 use Rattle.bezier.specs.declared.types.Found.{Found}
-use Rattle.bezier.specs.Search.{foundAt, withValue}
+use Rattle.bezier.specs.Bezier.{plainOf, foundBy}
 use Rattle.refusal.specs.declared.Refusal.the-variants.{ProgressIsNan, EasingNotSupplied, EasingParameter}
 use Rattle.easing.specs.declared.kinds.Easing.{Easing}
 use Rattle.easing.specs.declared.params.Params.{Params}
@@ -30,7 +31,7 @@ module _ (e : Easing) (t : Float) (b : Bool) (eb : b ≡ isNan t) where
   no-number h = rw (← eb, h)
 
   module _ (h : b ≡ false) where
-    none-refused : (c : Option (Float → Float)) (search : Float → Found) (fine : Bool) (u : Float) → isSome c ≡ false → Refused EasingNotSupplied ≡ easedAt c search fine u
+    none-refused : (c : Option (Float → Float)) (search : Float → Solved) (fine : Bool) (u : Float) → isSome c ≡ false → Refused EasingNotSupplied ≡ easedAt c search fine u
     none-refused none search fine u s = refl
     none-refused (some f) search fine u s = absurd (true≢false s)
 
@@ -40,7 +41,7 @@ module _ (e : Easing) (t : Float) (b : Bool) (eb : b ≡ isNan t) where
 
     -- at a kind x with no parameters, and with some
     module _ (u : Float) (eu : u ≡ clamp01Of t) (x : Easing) (ex : e ≡ x) where
-      pub bare : (v w : Float) (r : Eased) → v ≡ w → r ≡ Value (foundAt true v) → paramsOf x ≡ noParams → easedAt (curveOf x) (searchOf x) true u ≡ Value (foundAt true w) → r ≡ applyOf e t
+      pub bare : (v w : Float) (r : Eased) → v ≡ w → r ≡ Value (plainOf v) → paramsOf x ≡ noParams → easedAt (curveOf x) (searchOf x) true u ≡ Value (plainOf w) → r ≡ applyOf e t
       unfolding applyOf
       bare v w r ev er ep ec = er ∙ rw (← eb, h, ex, ep, none-within, ← eu, ec, ev)
 
@@ -71,7 +72,7 @@ fits-answers e p f n =
     let k = go (curveOf e) (searchOf e) (withinOf (paramsOf e)) (clamp01Of p) (and-l (isSome (curveOf e)) (withinOf (paramsOf e)) f) (and-r (isSome (curveOf e)) (withinOf (paramsOf e)) f) in
     (k .0, rw n (k .1))
   where
-    go : (c : Option (Float → Float)) (search : Float → Found) (fine : Bool) (u : Float) → T (isSome c) → T fine → (f : Found) × (easedAt c search fine u ≡ Value f)
+    go : (c : Option (Float → Float)) (search : Float → Solved) (fine : Bool) (u : Float) → T (isSome c) → T fine → (f : Found) × (easedAt c search fine u ≡ Value f)
     go none search fine u s h = absurd s
-    go (some f) search true u s h = (withValue (f u) (search u), refl)
+    go (some f) search true u s h = (foundBy (search u) (f u), refl)
     go (some f) search false u s h = absurd h

@@ -1,13 +1,13 @@
 -- Every value that an easing answers is finite, and at most 134,217,728 in size. Assumes nothing.
 use Prim.Native.Nat.{ℕ, _≤_}
-use mathlib.Core.Path.{_≡_, refl, subst}
+use mathlib.Core.Path.{refl, subst}
 use mathlib.Core.Bool.{Bool, true, false}
 use mathlib.Core.Option.{Option, none, some}
 use lib.Dec.{T, leb→le, lit≤}
 use lib.Ieee.{Float, isNan, ofBits}
 use lib.Ieee.Fits.{and-l, and-r}
 use Rattle.math.specs.Whole.{Is}
-use Rattle.math.specs.Range.{clamp01Of, isFinite, Within, AtMost}
+use Rattle.math.specs.Range.{clamp01Of, Within, AtMost}
 use Rattle.math.proofs.Choice.{by-test}
 use Rattle.math.proofs.Numbers.{finite-number}
 use Rattle.math.proofs.Ranges.{clamped, within-at-most}
@@ -18,9 +18,9 @@ use Rattle.curves.specs.Back.{inBack, outBack, inOutBack}
 use Rattle.curves.specs.Bounce.{inBounce, outBounce, inOutBounce, customBounce}
 use Rattle.curves.specs.Stairs.{stepsOf}
 use Rattle.bezier.specs.Bezier.{cubicBezier}
-use Rattle.curves.proofs.Bounds.{in-power, out-power, in-out-power, in-back, out-back, in-out-back, in-bounce, out-bounce, in-out-bounce, custom-bounce-most, slow-mo-most, steps-within}
+use Rattle.curves.proofs.Bounds.{in-power-most, out-power-most, in-out-power-most, in-back, out-back, in-out-back, in-bounce, out-bounce, in-out-bounce, custom-bounce-most, slow-mo-most, steps-within}
 use Rattle.curves.proofs.Circles.{circ-at-most}
-use Rattle.bezier.specs.declared.types.Found.{Found}
+use Rattle.bezier.specs.declared.types.Solved.{Solved}
 use Rattle.bezier.proofs.Answers.{answer-at-most}
 use Rattle.refusal.specs.declared.Refusal.the-variants.{ProgressIsNan}
 use Rattle.easing.specs.declared.answers.Eased.{Eased}
@@ -28,6 +28,7 @@ use Rattle.easing.specs.declared.answers.Eased.the-variants.{Value, Refu
 use Rattle.easing.specs.Kinds.{curveOf}
 use Rattle.easing.specs.Params.{limitF, upTo1024, paramsOf, withinOf}
 use Rattle.easing.specs.Apply.{searchOf, easedAt, applyOf}
+use Rattle.easing.specs.Promises.{ApplyBounded, ApplyFinite}
 use Rattle.easing.specs.declared.kinds.Easing.{Easing}
 use Rattle.easing.specs.declared.kinds.Easing.the-variants.{Linear, EaseInQuad, EaseOutQuad, EaseInOutQuad, EaseInCubic, EaseOutCubic, EaseInOutCubic, EaseInQuart, EaseOutQuart, EaseInOutQuart, EaseInQuint, EaseOutQuint, EaseInOutQuint, EaseInSine, EaseOutSine, EaseInOutSine, EaseInExpo, EaseOutExpo, EaseInOutExpo, EaseInCirc, EaseOutCirc, EaseInOutCirc, EaseInBack, EaseOutBack, EaseInOutBack, EaseInElastic, EaseOutElastic, EaseInOutElastic, EaseInBounce, EaseOutBounce, EaseInOutBounce, CubicBezier, Steps, RoughEase, SlowMo, Wiggle, CustomBounce, ExpoScale}
 
@@ -49,18 +50,18 @@ module _ (u : Float) (w : Within u) where
   bounded : (e : Easing) → T (withinOf (paramsOf e)) → Bounded (curveOf e) u
   unfolding curveOf withinOf paramsOf
   bounded Linear h = more 1 u (lit≤ tt) (within-at-most u w)
-  bounded EaseInQuad h = more 1 (inPower quad u) (lit≤ tt) (in-power quad u w)
-  bounded EaseOutQuad h = more 2 (outPower quad u) (lit≤ tt) (out-power quad u w)
-  bounded EaseInOutQuad h = more 16 (inOutPower quad u) (lit≤ tt) (in-out-power quad u w)
-  bounded EaseInCubic h = more 1 (inPower cubic u) (lit≤ tt) (in-power cubic u w)
-  bounded EaseOutCubic h = more 2 (outPower cubic u) (lit≤ tt) (out-power cubic u w)
-  bounded EaseInOutCubic h = more 16 (inOutPower cubic u) (lit≤ tt) (in-out-power cubic u w)
-  bounded EaseInQuart h = more 1 (inPower quart u) (lit≤ tt) (in-power quart u w)
-  bounded EaseOutQuart h = more 2 (outPower quart u) (lit≤ tt) (out-power quart u w)
-  bounded EaseInOutQuart h = more 16 (inOutPower quart u) (lit≤ tt) (in-out-power quart u w)
-  bounded EaseInQuint h = more 1 (inPower quint u) (lit≤ tt) (in-power quint u w)
-  bounded EaseOutQuint h = more 2 (outPower quint u) (lit≤ tt) (out-power quint u w)
-  bounded EaseInOutQuint h = more 16 (inOutPower quint u) (lit≤ tt) (in-out-power quint u w)
+  bounded EaseInQuad h = more 1 (inPower quad u) (lit≤ tt) (in-power-most quad u w)
+  bounded EaseOutQuad h = more 2 (outPower quad u) (lit≤ tt) (out-power-most quad u w)
+  bounded EaseInOutQuad h = more 16 (inOutPower quad u) (lit≤ tt) (in-out-power-most quad u w)
+  bounded EaseInCubic h = more 1 (inPower cubic u) (lit≤ tt) (in-power-most cubic u w)
+  bounded EaseOutCubic h = more 2 (outPower cubic u) (lit≤ tt) (out-power-most cubic u w)
+  bounded EaseInOutCubic h = more 16 (inOutPower cubic u) (lit≤ tt) (in-out-power-most cubic u w)
+  bounded EaseInQuart h = more 1 (inPower quart u) (lit≤ tt) (in-power-most quart u w)
+  bounded EaseOutQuart h = more 2 (outPower quart u) (lit≤ tt) (out-power-most quart u w)
+  bounded EaseInOutQuart h = more 16 (inOutPower quart u) (lit≤ tt) (in-out-power-most quart u w)
+  bounded EaseInQuint h = more 1 (inPower quint u) (lit≤ tt) (in-power-most quint u w)
+  bounded EaseOutQuint h = more 2 (outPower quint u) (lit≤ tt) (out-power-most quint u w)
+  bounded EaseInOutQuint h = more 16 (inOutPower quint u) (lit≤ tt) (in-out-power-most quint u w)
   bounded EaseInSine h = tt
   bounded EaseOutSine h = tt
   bounded EaseInOutSine h = tt
@@ -91,7 +92,7 @@ abbrev Fine : Eased → Type 0
 Fine (Value f) = AtMost 134217728 (f .value)
 Fine (Refused r) = Unit {0}
 
-eased-fine : (c : Option (Float → Float)) (search : Float → Found) (fine : Bool) (u : Float) → (T fine → Bounded c u) → Fine (easedAt c search fine u)
+eased-fine : (c : Option (Float → Float)) (search : Float → Solved) (fine : Bool) (u : Float) → (T fine → Bounded c u) → Fine (easedAt c search fine u)
 eased-fine none search fine u h = tt
 eased-fine (some f) search true u h = h tt
 eased-fine (some f) search false u h = tt
@@ -102,8 +103,8 @@ apply-fine e t =
     by-test Fine (isNan t) (Refused ProgressIsNan) (easedAt (curveOf e) (searchOf e) (withinOf (paramsOf e)) (clamp01Of t)) (λ _. tt)
     (λ h. eased-fine (curveOf e) (searchOf e) (withinOf (paramsOf e)) (clamp01Of t) (bounded (clamp01Of t) (clamped t h) e))
 
-pub apply-bounded : (e : Easing) (t : Float) (f : Found) → applyOf e t ≡ Value f → AtMost 134217728 (f .value)
+pub apply-bounded : ApplyBounded
 apply-bounded e t f h = subst Fine h (apply-fine e t)
 
-pub apply-finite : (e : Easing) (t : Float) (f : Found) → applyOf e t ≡ Value f → T (isFinite (f .value))
+pub apply-finite : ApplyFinite
 apply-finite e t f h = at-most-finite 134217728 (f .value) (apply-bounded e t f h)

@@ -6,7 +6,7 @@ use lib.Ieee.{Float, add, sub, mul, div, neg, lt, le, eq, ofInt, ofBits}
 use Rattle.math.specs.Rounded.{zeroF}
 use Rattle.curves.specs.Root.{rootFrom, sqrtOf}
 use Rattle.curves.specs.Circ.{inCirc, outCirc, inOutCirc}
-use Rattle.bezier.specs.Bezier.{foundOf, cubicBezier}
+use Rattle.bezier.specs.Bezier.{solutionOf, cubicBezier}
 use Rattle.easing.specs.Kinds.{curveOf}
 use Rattle.easing.specs.declared.kinds.Easing.{Easing}
 use Rattle.easing.specs.declared.kinds.Easing.the-variants.{Linear, EaseInQuad, EaseOutQuad, EaseInOutQuad, EaseInCubic, EaseOutCubic, EaseInOutCubic, EaseInQuart, EaseOutQuart, EaseInOutQuart, EaseInQuint, EaseOutQuint, EaseInOutQuint, EaseInSine, EaseOutSine, EaseInOutSine, EaseInExpo, EaseOutExpo, EaseInOutExpo, EaseInCirc, EaseOutCirc, EaseInOutCirc, EaseInBack, EaseOutBack, EaseInOutBack, EaseInElastic, EaseOutElastic, EaseInOutElastic, EaseInBounce, EaseOutBounce, EaseInOutBounce, CubicBezier, Steps, RoughEase, SlowMo, Wiggle, CustomBounce, ExpoScale}
@@ -16,7 +16,7 @@ Starts none = Unit {0}
 Starts (some f) = eq (f zeroF) zeroF ≡ true
 
 pub starts : (e : Easing) → Starts (curveOf e)
-unfolding curveOf add sub mul div neg lt le eq ofInt ofBits sqrtOf rootFrom inCirc outCirc inOutCirc cubicBezier foundOf
+unfolding curveOf add sub mul div neg lt le eq ofInt ofBits sqrtOf rootFrom inCirc outCirc inOutCirc cubicBezier solutionOf
 starts Linear = refl
 starts EaseInQuad = refl
 starts EaseOutQuad = refl

@@ -5,18 +5,17 @@ use mathlib.Core.Path.{_≡_, refl}
 use lib.Ieee.{Float, isNan}
 use Rattle.math.specs.Range.{clamp01Of}
 use Rattle.math.proofs.Choice.{of-picked}
-use Rattle.bezier.specs.declared.types.Found.{Found}
-use Rattle.easing.specs.declared.kinds.Easing.{Easing}
+use Rattle.bezier.specs.declared.types.Solved.{Solved}
 use Rattle.easing.specs.Kinds.{curveOf}
 use Rattle.easing.specs.Params.{paramsOf, withinOf}
 use Rattle.easing.specs.Apply.{searchOf, easedAt, applyOf}
-use Rattle.easing.specs.Values.{valuePart, curveAlone, applyAlone}
+use Rattle.easing.specs.Values.{valuePart, curveAlone, applyAlone, ApplyUnchanged}
 
-at-unchanged : (c : Option (Float → Float)) (search : Float → Found) (fine : Bool) (t : Float) → valuePart (easedAt c search fine t) ≡ curveAlone c fine t
+at-unchanged : (c : Option (Float → Float)) (search : Float → Solved) (fine : Bool) (t : Float) → valuePart (easedAt c search fine t) ≡ curveAlone c fine t
 at-unchanged none search fine t = refl
 at-unchanged (some f) search true t = refl
 at-unchanged (some f) search false t = refl
 
-pub apply-unchanged : (e : Easing) (t : Float) → valuePart (applyOf e t) ≡ applyAlone e t
+pub apply-unchanged : ApplyUnchanged
 unfolding applyOf applyAlone
 apply-unchanged e t = of-picked valuePart (isNan t) _ _ _ _ refl (at-unchanged (curveOf e) (searchOf e) (withinOf (paramsOf e)) (clamp01Of t))

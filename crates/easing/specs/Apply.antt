@@ -4,11 +4,12 @@ use mathlib.Core.Option.{Option, none, some}
 use lib.Dec.{eqb}
 use lib.Ieee.{Float, isNan}
 use Rattle.math.specs.Range.{clamp01Of}
+use Rattle.bezier.specs.declared.types.Solved.{Solved}
 use Rattle.bezier.specs.declared.types.Found.{Found}
-use Rattle.bezier.specs.Search.{foundAt, withValue}
-use Rattle.bezier.specs.Bezier.{foundOf}
+use Rattle.bezier.specs.Search.{solvedAt}
+use Rattle.bezier.specs.Bezier.{solutionOf, foundBy}
 use Rattle.refusal.specs.declared.Refusal.the-variants.{ProgressIsNan, EasingNotSupplied, EasingParameter}
-use Rattle.refusal.specs.Refusing.{unless}
+use Rattle.refusal.specs.Refusing.{unless, when}
 use Rattle.easing.specs.declared.kinds.Easing.{Easing}
 use Rattle.easing.specs.declared.answers.Eased.{Eased}
 use Rattle.easing.specs.declared.answers.Eased.the-variants.{Value, Refused}
@@ -22,17 +23,19 @@ abbrev pub limitedOf : Bool → Found → Eased
 limitedOf fine f = unless fine (Refused EasingParameter) (Value f)
 
 -- Request 1: the search behind the curve's value at t, which is CubicBezier's, number 31, with a and c for x1 and x2; "other curves .. count as settled with no evaluations"
-unfoldable pub searchOf : Easing → Float → Found
-searchOf e t = cond (eqb (numberOf e) 31) (foundOf t (paramsOf e .a) (paramsOf e .c)) (foundAt true t)
+unfoldable pub searchOf : Easing → Float → Solved
+searchOf e t = cond (eqb (numberOf e) 31) (solutionOf t (paramsOf e .a) (paramsOf e .c)) (solvedAt true t)
 
 -- the curve at t, where there is one, with the search behind it; `fine` says whether the parameters are within their limits
-abbrev pub easedAt : Option (Float → Float) → (Float → Found) → Bool → Float → Eased
+abbrev pub easedAt : Option (Float → Float) → (Float → Solved) → Bool → Float → Eased
 easedAt none search fine t = Refused EasingNotSupplied
-easedAt (some curve) search fine t = limitedOf fine (withValue (curve t) (search t))
+easedAt (some curve) search fine t = limitedOf fine (foundBy (search t) (curve t))
 
 -- "t is clamped to 0..1, infinities too; NaN is refused with number 1". The order of the refusals is 1, 2, 3
 unfoldable pub applyOf : Easing → Float → Eased
-applyOf e t = cond (isNan t) (Refused ProgressIsNan) (easedAt (curveOf e) (searchOf e) (withinOf (paramsOf e)) (clamp01Of t))
+applyOf e t =
+    when (isNan t) (Refused ProgressIsNan)
+    (easedAt (curveOf e) (searchOf e) (withinOf (paramsOf e)) (clamp01Of t))
 
 -- "Easing inside a record must be supplied and within limits"
 unfoldable pub fitsRecordOf : Easing → Bool

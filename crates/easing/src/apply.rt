@@ -1,7 +1,6 @@
 // The value of an easing at a progress.
 ghost use mathlib.Core.Path.{_≡_};
-ghost use mathlib.Core.Bool.{true};
-ghost use Rattle.bezier.specs.Search.{foundAt};
+ghost use Rattle.bezier.specs.Bezier.{plainOf};
 ghost use Rattle.easing.specs.Apply.{limitedOf, applyOf};
 use crate::answers::Eased;
 use crate::kinds::Easing;
@@ -13,7 +12,7 @@ use units::Progress;
 
 // A curve without a search.
 fn plain(value: f32) -> Eased
-    ensures { λ r. ⌜ r ≡ Eased.Value (foundAt true value) ⌝ }
+    ensures { λ r. ⌜ r ≡ Eased.Value (plainOf value) ⌝ }
 {
     Eased::Value(Found::plain(value))
 }

@@ -8,11 +8,10 @@ use Rattle.math.proofs.Order.{le-numbers}
 use Rattle.easing.specs.declared.kinds.Easing.{Easing}
 use Rattle.easing.specs.declared.answers.Eased.the-variants.{Value}
 use Rattle.easing.specs.Apply.{applyOf, fitsRecordOf}
-use Rattle.frames.specs.declared.frame.Keyframe.{Keyframe}
-use Rattle.frames.specs.Limits.{frameWithin}
-use Rattle.frames.specs.Sampling.{alongOf, easedOf}
+use Rattle.frames.specs.Sampling.{localProgress, easedOf}
+use Rattle.frames.specs.Promises.{BetweenAnswers}
 use Rattle.frames.proofs.Rising.{time-fine, easing-fine}
-use Rattle.frames.proofs.Clocks.{Clock, time-clock}
+use Rattle.frames.proofs.Clocks.{time-clock}
 use Rattle.frames.proofs.Samples.{local-within}
 use Rattle.easing.proofs.Answering.{fits-answers}
 
@@ -21,9 +20,7 @@ eased-answers e p h n =
     let k = fits-answers e p (holds (fitsRecordOf e) h) n in
     rw (k .1)
 
-pub between-answers : (k l : Keyframe) (t : Float) → frameWithin k ≡ true → frameWithin l ≡ true → Clock t
-    → let p = alongOf (k .time) (l .time) t in
-    applyOf (k .easing) p ≡ Value (easedOf (k .easing) p)
+pub between-answers : BetweenAnswers
 between-answers k l t f g c =
     let w = local-within t (k .time) (l .time) c (time-clock (k .time) (time-fine k f)) (time-clock (l .time) (time-fine l g)) in
-    eased-answers (k .easing) (alongOf (k .time) (l .time) t) (easing-fine k f) (le-numbers (alongOf (k .time) (l .time) t) oneF (w .1) .0)
+    eased-answers (k .easing) (localProgress (k .time) (l .time) t) (easing-fine k f) (le-numbers (localProgress (k .time) (l .time) t) oneF (w .1) .0)

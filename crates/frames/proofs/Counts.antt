@@ -17,8 +17,8 @@ use Rattle.math.proofs.Order.{lt-le, le-chain}
 use Rattle.math.proofs.Tallies.{byte-below, byte-more}
 use Rattle.frames.specs.declared.frame.Keyframe.{Keyframe}
 use Rattle.frames.specs.Limits.{framesAfter, noFrame}
-use Rattle.frames.specs.Counting.{countOf, counted}
-use Rattle.frames.specs.Sampling.{timesOf, leading, passedOf, firstOf, lastOf}
+use Rattle.frames.specs.Sampling.{leading, framesUpTo, firstOf, lastOf, countOf}
+use Rattle.frames.specs.Inner.{timesOf, counted}
 use Rattle.frames.proofs.Rising.{rest-fine, head-above}
 
 pub byte-fits : (w : Width) (b : Bool) (c i : ℕ) → c < i → Fits w i → Fits w (c + boolByte b)
@@ -66,20 +66,20 @@ module _ (t : Float) where
       go false e = refl
 
   -- without the last, which is past t, the count is how many from the front are passed
-  front-passed : (p : Float) (k : Keyframe) (ks : List Keyframe) → framesAfter p (k ∷ ks) ≡ true → le (getD (k ∷ ks) (length ks) noFrame .time) t ≡ false → countOf (λ (x : Float). le x t) (take (length ks) (timesOf (k ∷ ks))) ≡ passedOf t (k ∷ ks)
+  front-passed : (p : Float) (k : Keyframe) (ks : List Keyframe) → framesAfter p (k ∷ ks) ≡ true → le (getD (k ∷ ks) (length ks) noFrame .time) t ≡ false → countOf (λ (x : Float). le x t) (take (length ks) (timesOf (k ∷ ks))) ≡ framesUpTo t (k ∷ ks)
   unfolding countOf leading
   front-passed p k [] f z = rw z
   front-passed p k (j ∷ ks) f z =
       let r = front-passed (k .time) j ks (rest-fine p k (j ∷ ks) f) z in
       go (le (k .time) t) refl r
     where
-      go : (b : Bool) → le (k .time) t ≡ b → countOf (λ (x : Float). le x t) (take (length ks) (timesOf (j ∷ ks))) ≡ passedOf t (j ∷ ks)
-          → cond b (suc (countOf (λ (x : Float). le x t) (take (length ks) (timesOf (j ∷ ks))))) (countOf (λ (x : Float). le x t) (take (length ks) (timesOf (j ∷ ks)))) ≡ cond b (suc (passedOf t (j ∷ ks))) 0
+      go : (b : Bool) → le (k .time) t ≡ b → countOf (λ (x : Float). le x t) (take (length ks) (timesOf (j ∷ ks))) ≡ framesUpTo t (j ∷ ks)
+          → cond b (suc (countOf (λ (x : Float). le x t) (take (length ks) (timesOf (j ∷ ks))))) (countOf (λ (x : Float). le x t) (take (length ks) (timesOf (j ∷ ks)))) ≡ cond b (suc (framesUpTo t (j ∷ ks))) 0
       go true e r = ap suc r
       go false e r = r ∙ rw (still-past (k .time) j ks (rest-fine p k (j ∷ ks) f) e) refl
 
   -- between the first time and the last one frame more is passed than is counted: the first
-  pub counted-passed : (p : Float) (l : List Keyframe) → framesAfter p l ≡ true → 1 < length l → le (firstOf l .time) t ≡ true → le (lastOf l .time) t ≡ false → passedOf t l ≡ counted (timesOf l) t (length l - 1) + 1
+  pub counted-passed : (p : Float) (l : List Keyframe) → framesAfter p l ≡ true → 1 < length l → le (firstOf l .time) t ≡ true → le (lastOf l .time) t ≡ false → framesUpTo t l ≡ counted (timesOf l) t (length l - 1) + 1
   unfolding leading
   counted-passed p [] f h a z = absurd (omega (arith, h))
   counted-passed p (k ∷ []) f h a z = absurd (omega (arith, h))

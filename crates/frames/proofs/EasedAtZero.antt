@@ -5,7 +5,7 @@ use mathlib.Core.Option.{Option, none, some}
 use lib.Ieee.{Float, lt, eq, isNan, ofBits}
 use Rattle.math.specs.Rounded.{zeroF}
 use Rattle.math.specs.Range.{clamp01Of}
-use Rattle.bezier.specs.declared.types.Found.{Found}
+use Rattle.bezier.specs.declared.types.Solved.{Solved}
 use Rattle.easing.specs.Kinds.{curveOf}
 use Rattle.easing.specs.Params.{paramsOf, withinOf}
 use Rattle.easing.specs.Apply.{searchOf, easedAt, applyOf}
@@ -17,7 +17,7 @@ zero-eq : eq zeroF zeroF ≡ true
 unfolding eq ofBits
 zero-eq = refl
 
-eased-from : (c : Option (Float → Float)) (search : Float → Found) (fine : Bool) → Starts c → eq (foundIn (easedAt c search fine zeroF) .value) zeroF ≡ true
+eased-from : (c : Option (Float → Float)) (search : Float → Solved) (fine : Bool) → Starts c → eq (foundIn (easedAt c search fine zeroF) .value) zeroF ≡ true
 eased-from none search fine s = zero-eq
 eased-from (some f) search true s = s
 eased-from (some f) search false s = zero-eq

@@ -21,7 +21,7 @@ use Rattle.math.proofs.Blends.{blend-zero}
 use Rattle.math.proofs.Sizes.{at-most-finite, sub-at-most}
 use Rattle.frames.specs.declared.frame.Keyframe.{Keyframe}
 use Rattle.frames.specs.Limits.{frameWithin, framesWithin, beforeAll, noFrame}
-use Rattle.frames.specs.Sampling.{passedOf, firstOf, lastOf, spanOf, betweenOf, ownOf, sampleOf}
+use Rattle.frames.specs.Sampling.{framesUpTo, firstOf, lastOf, spanOf, betweenOf, ownOf, sampleOf}
 use Rattle.frames.proofs.Rising.{each-fine, rising, time-fine, time-number}
 use Rattle.frames.proofs.Clocks.{clock-finite, time-clock}
 use Rattle.frames.proofs.Picks.{passed-interval}
@@ -61,7 +61,7 @@ module _ (l : List Keyframe) (fine : framesWithin l ≡ true) (p : ℕ) (here : 
       let last : T (lt x (lastOf l .time)) = rising beforeAll l fine p (length l - 1) high (omega arith) in
       let next : T (lt x (getD l (p + 1) noFrame .time)) = rising beforeAll l fine p (p + 1) (omega arith) (omega arith) in
       let up : T (lt zeroF x) = le-lt-chain zeroF (firstOf l .time) x (time-clock (firstOf l .time) (time-fine (firstOf l) (each-fine beforeAll l fine 0 (omega arith))) .0) first in
-      let e : passedOf x l ≡ p + 1 = passed-interval l x p fine (omega arith) (is-true (le x x) (le-self x real)) (not-le-of-lt x (getD l (p + 1) noFrame .time) next) in
+      let e : framesUpTo x l ≡ p + 1 = passed-interval l x p fine (omega arith) (is-true (le x x) (le-self x real)) (not-le-of-lt x (getD l (p + 1) noFrame .time) next) in
       let d : p + 1 - 1 ≡ p = omega arith in
       rw (ne-eqb (length l) 1 (λ o. omega (arith, o, low, high)), is-true (lt zeroF x) up, is-true (lt x (lastOf l .time)) last, not-le-of-lt (firstOf l .time) x first, not-le-of-lt x (lastOf l .time) last, e, d)
       (between-own (getD l p noFrame) (getD l (p + 1) noFrame) (each-fine beforeAll l fine p here) (each-fine beforeAll l fine (p + 1) (omega arith)) held)

@@ -19,14 +19,14 @@ use Rattle.math.proofs.Order.{le-numbers, le-self, lt-le, le-chain, lt-of-not-l
 use Rattle.bezier.specs.declared.types.Found.{Found}
 use Rattle.frames.specs.declared.frame.Keyframe.{Keyframe}
 use Rattle.frames.specs.Limits.{framesWithin, beforeAll, noFrame}
-use Rattle.frames.specs.Counting.{counted}
-use Rattle.frames.specs.Sampling.{timesOf, passedOf, lastOf, cutOf, betweenOf, ownOf, pickOf, atOf, sampleOf}
+use Rattle.frames.specs.Sampling.{framesUpTo, lastOf, cutOf, betweenOf, ownOf, pickOf, atOf, sampleOf}
+use Rattle.frames.specs.Inner.{timesOf, counted}
+use Rattle.frames.specs.Promises.{PassedInterval}
 use Rattle.frames.proofs.Rising.{each-fine, rising, time-fine, time-number}
 use Rattle.frames.proofs.Walks.{lead-is, lead-below}
 use Rattle.frames.proofs.Counts.{counted-passed, counted-front}
 
--- the frames of an interval of ascending times are the last at or before t, and the next
-pub passed-interval : (l : List Keyframe) (t : Float) (i : ℕ) → framesWithin l ≡ true → i + 1 < length l → le (getD l i noFrame .time) t ≡ true → le (getD l (i + 1) noFrame .time) t ≡ false → passedOf t l ≡ i + 1
+pub passed-interval : PassedInterval
 passed-interval l t i f h a z =
     lead-is (λ (k : Keyframe). le (k .time) t) l (i + 1) (omega arith)
     (λ j b. ⊎-elim (λ (e : j ≡ i). rw e a) (λ (e : j < i). is-true (le (getD l j noFrame .time) t) (earlier j e)) (eq-or-lt-of-le {n = j} {m = i} (omega (arith, b))))
@@ -72,7 +72,7 @@ module _ (fs : List Keyframe) (n : ℕ) (some : 1 ≤ n) (fit : n ≤ length fs)
 
     -- where t lies between the first and the last time, one frame more is passed than i
     abbrev pub Place : ℕ → Type 0
-    Place i = le t (getD fs 0 noFrame .time) ≡ false → le (getD fs (n - 1) noFrame .time) t ≡ false → passedOf t (take n fs) ≡ i + 1
+    Place i = le t (getD fs 0 noFrame .time) ≡ false → le (getD fs (n - 1) noFrame .time) t ≡ false → framesUpTo t (take n fs) ≡ i + 1
 
     -- so it is with what is counted
     found : (starts : List Float) → take n starts ≡ timesOf (take n fs) → Place (counted starts t (n - 1))
@@ -87,16 +87,16 @@ module _ (fs : List Keyframe) (n : ℕ) (some : 1 ≤ n) (fit : n ≤ length fs)
         apart (suc zero) s z b = absurd (false≢true (sym z ∙ b))
         apart (suc (suc n)) s z b = omega arith
 
-    same : (i : ℕ) → le (getD fs (n - 1) noFrame .time) t ≡ false → passedOf t (take n fs) ≡ i + 1 → (getD fs i noFrame ≡ getD (take n fs) (passedOf t (take n fs) - 1) noFrame) × (getD fs (i + 1) noFrame ≡ getD (take n fs) (passedOf t (take n fs)) noFrame)
+    same : (i : ℕ) → le (getD fs (n - 1) noFrame .time) t ≡ false → framesUpTo t (take n fs) ≡ i + 1 → (getD fs i noFrame ≡ getD (take n fs) (framesUpTo t (take n fs) - 1) noFrame) × (getD fs (i + 1) noFrame ≡ getD (take n fs) (framesUpTo t (take n fs)) noFrame)
     same i z e =
-        let m : passedOf t (take n fs) ≤ n - 1 = lead-below (λ (k : Keyframe). le (k .time) t) (take n fs) (n - 1) (omega (arith, long)) (rw (at (n - 1) (omega arith)) z) in
+        let m : framesUpTo t (take n fs) ≤ n - 1 = lead-below (λ (k : Keyframe). le (k .time) t) (take n fs) (n - 1) (omega (arith, long)) (rw (at (n - 1) (omega arith)) z) in
         let h : i + 1 < n = omega (arith, m, e) in
         let d : i + 1 - 1 ≡ i = omega arith in
         (rw (e, d) (sym (at i (omega (arith, h)))), rw e (sym (at (i + 1) h)))
 
     at-time : (i : ℕ) → Place i → pickOf (getD fs 0 noFrame) (getD fs (n - 1) noFrame) (getD fs i noFrame) (getD fs (i + 1) noFrame) t ≡ atOf (take n fs) t
     at-time i p =
-        pick-same (getD fs 0 noFrame) (getD fs (n - 1) noFrame) _ _ (getD (take n fs) (passedOf t (take n fs) - 1) noFrame) (getD (take n fs) (passedOf t (take n fs)) noFrame) t (λ a z. same i z (p a z))
+        pick-same (getD fs 0 noFrame) (getD fs (n - 1) noFrame) _ _ (getD (take n fs) (framesUpTo t (take n fs) - 1) noFrame) (getD (take n fs) (framesUpTo t (take n fs)) noFrame) t (λ a z. same i z (p a z))
         ∙ rw (at 0 some, last-at)
 
   -- what `pick` answers at the time that is sampled is the sample

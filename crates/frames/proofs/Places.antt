@@ -11,7 +11,8 @@ use borrow.Author.Tests.{le-leb, lt-leb}
 use Rattle.frames.specs.declared.frame.Keyframe.{Keyframe}
 use Rattle.frames.specs.Limits.{noFrame}
 use Rattle.frames.specs.Sampling.{leading}
-use Rattle.frames.specs.Pushing.{pushedOf, putOf, earlierOf, insertOf}
+use Rattle.frames.specs.Pushing.{pushedOf, putOf}
+use Rattle.frames.specs.Inner.{earlierOf, insertOf}
 
 module _ (k : Keyframe) where
   pushed-same : (l : List Keyframe) → earlierOf (k .time) l < length l → eq (getD l (earlierOf (k .time) l) noFrame .time) (k .time) ≡ true

@@ -18,6 +18,7 @@ use Rattle.frames.specs.declared.frame.Keyframe.{Keyframe}
 use Rattle.frames.specs.Limits.{frameWithin, framesAfter, framesWithin, beforeAll, noFrame}
 use Rattle.frames.specs.Sampling.{lastOf, durationOf}
 use Rattle.frames.specs.Pushing.{pushedOf}
+use Rattle.frames.specs.Promises.{PushedFine, PushedIn}
 use Rattle.frames.proofs.Rising.{time-fine, time-number, head-fine, head-above, rest-fine, above}
 
 -- two times, of which the first is not below the second
@@ -40,21 +41,20 @@ unfolding framesAfter
 sooner p q [] h f = refl
 sooner p q (k ∷ ks) h f = frames-cons q k ks (head-fine p k ks f) (le-lt-chain q p (k .time) h (head-above p k ks f)) (rest-fine p k ks f)
 
-module _ (k : Keyframe) (fine : frameWithin k ≡ true) where
-  real : isNan (k .time) ≡ false
-  real = time-number (k .time) (time-fine k fine)
+real : (k : Keyframe) → frameWithin k ≡ true → isNan (k .time) ≡ false
+real k fine = time-number (k .time) (time-fine k fine)
 
-  pub pushed-fine : (p : Float) (l : List Keyframe) → T (lt p (k .time)) → framesAfter p l ≡ true → framesAfter p (pushedOf k l) ≡ true
-  unfolding pushedOf framesAfter
-  pushed-fine p [] a f = frames-cons p k [] fine a refl
-  pushed-fine p (g ∷ gs) a f =
-      let n : isNan (g .time) ≡ false = time-number (g .time) (time-fine g (head-fine p g gs f)) in
-      by-test (λ (r : List Keyframe). framesAfter p r ≡ true) (lt (g .time) (k .time)) (g ∷ pushedOf k gs) _
-      (λ h. frames-cons p g (pushedOf k gs) (head-fine p g gs f) (head-above p g gs f) (pushed-fine (g .time) gs (holds (lt (g .time) (k .time)) h) (rest-fine p g gs f)))
-      (λ h.
-      by-test (λ (r : List Keyframe). framesAfter p r ≡ true) (eq (g .time) (k .time)) (k ∷ gs) (k ∷ g ∷ gs)
-      (λ e. frames-cons p k gs fine a (sooner (g .time) (k .time) gs (le-of-not-lt (g .time) (k .time) n real h) (rest-fine p g gs f)))
-      (λ e. frames-cons p k (g ∷ gs) fine a (frames-cons (k .time) g gs (head-fine p g gs f) (apart (g .time) (k .time) n real h e) (rest-fine p g gs f))))
+pub pushed-fine : PushedFine
+unfolding pushedOf framesAfter
+pushed-fine k fine p [] a f = frames-cons p k [] fine a refl
+pushed-fine k fine p (g ∷ gs) a f =
+    let n : isNan (g .time) ≡ false = time-number (g .time) (time-fine g (head-fine p g gs f)) in
+    by-test (λ (r : List Keyframe). framesAfter p r ≡ true) (lt (g .time) (k .time)) (g ∷ pushedOf k gs) _
+    (λ h. frames-cons p g (pushedOf k gs) (head-fine p g gs f) (head-above p g gs f) (pushed-fine k fine (g .time) gs (holds (lt (g .time) (k .time)) h) (rest-fine p g gs f)))
+    (λ h.
+    by-test (λ (r : List Keyframe). framesAfter p r ≡ true) (eq (g .time) (k .time)) (k ∷ gs) (k ∷ g ∷ gs)
+    (λ e. frames-cons p k gs fine a (sooner (g .time) (k .time) gs (le-of-not-lt (g .time) (k .time) n (real k fine) h) (rest-fine p g gs f)))
+    (λ e. frames-cons p k (g ∷ gs) fine a (frames-cons (k .time) g gs (head-fine p g gs f) (apart (g .time) (k .time) n (real k fine) h e) (rest-fine p g gs f))))
 
 -- the last frame of one that is there and those after it
 abbrev lastFrom : Keyframe → List Keyframe → Keyframe
@@ -119,7 +119,7 @@ module _ (k : Keyframe) (real : isNan (k .time) ≡ false) where
 abbrev In : Keyframe → List Keyframe → Type 0
 In k r = (p : ℕ) × ((p < length r) × (getD r p noFrame ≡ k))
 
-pub pushed-in : (k : Keyframe) (l : List Keyframe) → In k (pushedOf k l)
+pub pushed-in : PushedIn
 unfolding pushedOf
 pushed-in k [] = (0, (omega arith, refl))
 pushed-in k (f ∷ fs) =

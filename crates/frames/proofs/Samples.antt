@@ -28,7 +28,8 @@ use Rattle.easing.specs.Apply.{applyOf}
 use Rattle.easing.proofs.Finite.{apply-bounded}
 use Rattle.frames.specs.declared.frame.Keyframe.{Keyframe}
 use Rattle.frames.specs.Limits.{frameWithin, framesWithin, beforeAll, noFrame}
-use Rattle.frames.specs.Sampling.{passedOf, firstOf, lastOf, cutOf, spanOf, foundIn, easedOf, alongOf, betweenOf, ownOf, atOf, sampleOf, unsettledOf}
+use Rattle.frames.specs.Sampling.{framesUpTo, firstOf, lastOf, cutOf, spanOf, foundIn, easedOf, localProgress, betweenOf, ownOf, atOf, sampleOf, unsettledOf}
+use Rattle.frames.specs.Promises.{UnsettledMost}
 use Rattle.frames.proofs.Rising.{each-fine, rising, time-fine, time-number, value-fine}
 use Rattle.frames.proofs.Clocks.{Clock, clock-most, time-clock}
 use Rattle.frames.proofs.Walks.{lead-some, lead-below}
@@ -53,7 +54,7 @@ module _ (t x y : Float) (ct : Clock t) (cx : Clock x) (cy : Clock y) where
   pub span-above : T (lt zeroF (spanOf (y ⊖ x)))
   span-above = by-test (λ (z : Float). T (lt zeroF z)) (lt epsilonF (y ⊖ x)) (y ⊖ x) epsilonF (λ h. lt-le-chain zeroF epsilonF (y ⊖ x) epsilon-above (lt-le epsilonF (y ⊖ x) (holds (lt epsilonF (y ⊖ x)) h))) (λ _. epsilon-above)
 
-  pub local-within : Within (alongOf x y t)
+  pub local-within : Within (localProgress x y t)
   local-within = clamped ((t ⊖ x) ⊘ spanOf (y ⊖ x)) (div-number binary32 (t ⊖ x) (spanOf (y ⊖ x)) (apart-finite t x ct cx) span-finite (lt-not-eq zeroF (spanOf (y ⊖ x)) span-above))
 
 pub value-bound : (k : Keyframe) → frameWithin k ≡ true → AtMost 16777216 (k .value)
@@ -72,8 +73,8 @@ Bounded f = AtMost 9007199254740992 (f .value)
 between-most : (k l : Keyframe) (t : Float) → frameWithin k ≡ true → frameWithin l ≡ true → Bounded (betweenOf k l t)
 unfolding betweenOf
 between-most k l t f g =
-    let c = easedOf (k .easing) (alongOf (k .time) (l .time) t) .value in
-    blend-most (k .value) (l .value) c (value-bound k f) (value-bound l g) (eased-most (k .easing) (alongOf (k .time) (l .time) t))
+    let c = easedOf (k .easing) (localProgress (k .time) (l .time) t) .value in
+    blend-most (k .value) (l .value) c (value-bound k f) (value-bound l g) (eased-most (k .easing) (localProgress (k .time) (l .time) t))
 
 -- the time that is sampled: from 0 to the last time, or that time
 module _ (l : List Keyframe) (fine : framesWithin l ≡ true) (some : 0 < length l) where
@@ -100,10 +101,10 @@ module _ (l : List Keyframe) (fine : framesWithin l ≡ true) (some : 0 < length
     first-passed : le (firstOf l .time) t ≡ true
     first-passed = is-true (le (firstOf l .time) t) (lt-le (firstOf l .time) t (lt-of-not-le t (firstOf l .time) real number-first a))
 
-    passed-low : 0 < passedOf t l
+    passed-low : 0 < framesUpTo t l
     passed-low = lead-some (λ (k : Keyframe). le (k .time) t) l some first-passed
 
-    passed-high : passedOf t l ≤ length l - 1
+    passed-high : framesUpTo t l ≤ length l - 1
     passed-high = lead-below (λ (k : Keyframe). le (k .time) t) l (length l - 1) last-place z
 
   cut-number : (secs : Float) → isNan (cutOf (maxZeroOf secs) (lastOf l .time)) ≡ false
@@ -120,11 +121,11 @@ module _ (l : List Keyframe) (fine : framesWithin l ≡ true) (some : 0 < length
       (λ _.
       by-test Bounded (le t (firstOf l .time)) (ownOf (firstOf l)) _ (λ _. first)
       (λ a.
-      by-test Bounded (le (lastOf l .time) t) (ownOf (lastOf l)) (betweenOf (getD l (passedOf t l - 1) noFrame) (getD l (passedOf t l) noFrame) t) (λ _. last)
+      by-test Bounded (le (lastOf l .time) t) (ownOf (lastOf l)) (betweenOf (getD l (framesUpTo t l - 1) noFrame) (getD l (framesUpTo t l) noFrame) t) (λ _. last)
       (λ z.
       let low = passed-low t (cut-number secs) a z in
       let high = passed-high t (cut-number secs) a z in
-      between-most (getD l (passedOf t l - 1) noFrame) (getD l (passedOf t l) noFrame) t (frame-fine (passedOf t l - 1) (omega (arith, low, high, some))) (frame-fine (passedOf t l) (omega (arith, high, some))))))
+      between-most (getD l (framesUpTo t l - 1) noFrame) (getD l (framesUpTo t l) noFrame) t (frame-fine (framesUpTo t l - 1) (omega (arith, low, high, some))) (frame-fine (framesUpTo t l) (omega (arith, high, some))))))
 
   pub sample-finite : (secs : Float) → T (isFinite (sampleOf l secs .value))
   sample-finite secs = at-most-finite 9007199254740992 (sampleOf l secs .value) (sample-most secs)
@@ -158,6 +159,6 @@ module _ (l : List Keyframe) (fine : framesWithin l ≡ true) (some : 0 < length
       let f : le (lastOf l .time) (firstOf l .time) ≡ false = not-le-of-lt (firstOf l .time) (lastOf l .time) (rising beforeAll l fine 0 (length l - 1) b last-place) in
       rw (after-last secs h, f, is-true (le (lastOf l .time) (lastOf l .time)) (le-self (lastOf l .time) number-last)))
 
-pub unsettled-most : (l : List Keyframe) (times : List Float) → unsettledOf l times ≤ length times
+pub unsettled-most : UnsettledMost
 unfolding unsettledOf
 unsettled-most l times = count-most _ times

@@ -12,7 +12,7 @@ use lib.Ieee.{Float, le}
 use Rattle.math.specs.Range.{maxZeroOf}
 use Rattle.frames.specs.declared.frame.Keyframe.{Keyframe}
 use Rattle.frames.specs.Limits.{framesWithin, noFrame}
-use Rattle.frames.specs.Sampling.{passedOf, cutOf, pickOf, sampleOf}
+use Rattle.frames.specs.Sampling.{framesUpTo, cutOf, pickOf, sampleOf}
 use Rattle.frames.proofs.Picks.{passed-interval, real, started, picked}
 
 -- low is the last of the first i places with a time at or before t; 0 where there is none
@@ -49,7 +49,7 @@ module _ (fs : List Keyframe) (n : ℕ) (some : 1 ≤ n) (fit : n ≤ length fs)
         most : low ≤ n - 1
         most = ⊎-elim (λ (e : low ≡ 0). omega (arith, e)) (λ (h : (low < n) × (le (getD fs low noFrame .time) t ≡ true)). omega (arith, h .0)) (s .at)
 
-    scan-passed : passedOf t (take n fs) ≡ low + 1
+    scan-passed : framesUpTo t (take n fs) ≡ low + 1
     scan-passed =
         let h = scan-inside in
         let j : low < n = omega (arith, h) in

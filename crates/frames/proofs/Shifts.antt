@@ -8,7 +8,7 @@ use lib.ListN.{length, take, drop, getD, set, List·getD-append, take-append-dro
 use lib.Seq.{drop-cons, getD-take, length-take-le, take-suc, set-at}
 use Rattle.frames.specs.declared.frame.Keyframe.{Keyframe}
 use Rattle.frames.specs.Limits.{noFrame}
-use Rattle.frames.specs.Pushing.{insertOf}
+use Rattle.frames.specs.Inner.{insertOf}
 
 -- n frames of which those from j on have moved; place j still holds what it held
 unfoldable pub opened : List Keyframe → ℕ → ℕ → List Keyframe

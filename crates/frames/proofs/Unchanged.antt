@@ -18,8 +18,8 @@ use Rattle.easing.specs.Values.{valuePart, applyAlone}
 use Rattle.easing.proofs.Unchanged.{apply-unchanged}
 use Rattle.frames.specs.declared.frame.Keyframe.{Keyframe}
 use Rattle.frames.specs.Limits.{noFrame}
-use Rattle.frames.specs.Sampling.{firstOf, lastOf, cutOf, foundIn, easedOf, alongOf, betweenOf, passedOf, ownOf, pickOf, atOf, sampleOf, filledOf}
-use Rattle.frames.specs.Values.{valueIn, betweenAlone, pickAlone, sampleAlone, filledAlone}
+use Rattle.frames.specs.Sampling.{firstOf, lastOf, cutOf, foundIn, easedOf, localProgress, betweenOf, framesUpTo, ownOf, pickOf, atOf, sampleOf, filledOf}
+use Rattle.frames.specs.Values.{valueIn, betweenAlone, pickAlone, sampleAlone, filledAlone, SampleUnchanged}
 
 abbrev value : Found → Float
 value f = f .value
@@ -33,18 +33,18 @@ eased-unchanged e p = go (applyOf e p) ∙ ap valueIn (apply-unchanged e p)
 
 between-unchanged : (k l : Keyframe) (t : Float) → betweenOf k l t .value ≡ betweenAlone k l t
 unfolding betweenOf betweenAlone
-between-unchanged k l t = ap (blendOf (k .value) (l .value)) (eased-unchanged (k .easing) (alongOf (k .time) (l .time) t))
+between-unchanged k l t = ap (blendOf (k .value) (l .value)) (eased-unchanged (k .easing) (localProgress (k .time) (l .time) t))
 
 pick-unchanged : (first last k l : Keyframe) (t : Float) → pickOf first last k l t .value ≡ pickAlone first last k l t
 pick-unchanged first last k l t =
     of-picked value (le t (first .time)) (ownOf first) (cond (le (last .time) t) (ownOf last) (betweenOf k l t)) _ _ refl
     (of-picked value (le (last .time) t) (ownOf last) (betweenOf k l t) _ _ refl (between-unchanged k l t))
 
-pub sample-unchanged : (l : List Keyframe) (secs : Float) → sampleOf l secs .value ≡ sampleAlone l secs
+pub sample-unchanged : SampleUnchanged
 unfolding sampleOf sampleAlone
 sample-unchanged l secs =
     let t = cutOf (maxZeroOf secs) (lastOf l .time) in
-    of-picked value (eqb (length l) 1) (ownOf (firstOf l)) (atOf l t) _ _ refl (pick-unchanged (firstOf l) (lastOf l) (getD l (passedOf t l - 1) noFrame) (getD l (passedOf t l) noFrame) t)
+    of-picked value (eqb (length l) 1) (ownOf (firstOf l)) (atOf l t) _ _ refl (pick-unchanged (firstOf l) (lastOf l) (getD l (framesUpTo t l - 1) noFrame) (getD l (framesUpTo t l) noFrame) t)
 
 pub filled-unchanged : (l : List Keyframe) (times out : List Float) → filledOf l times out ≡ filledAlone l times out
 unfolding filledOf filledAlone

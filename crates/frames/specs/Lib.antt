@@ -1,5 +1,6 @@
 pub mod Limits
 pub mod Sampling
-pub mod Counting
 pub mod Pushing
+pub mod Inner
+pub mod Promises
 pub mod Values

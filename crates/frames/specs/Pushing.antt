@@ -1,13 +1,12 @@
 -- Document 01, "The track": a frame pushed among others.
-use Prim.Native.Nat.{ℕ, _+_, _-_}
+use Prim.Native.Nat.{ℕ}
 use mathlib.Core.Bool.{true, false, cond}
 use mathlib.Core.List.{List, [], _∷_, _++_}
 use lib.Dec.{leb}
 use lib.ListN.{length, take, drop}
-use lib.Ieee.{Float, lt, eq}
+use lib.Ieee.{lt, eq}
 use Rattle.frames.specs.declared.frame.Keyframe.{Keyframe}
 use Rattle.frames.specs.declared.frame.Put.{Put}
-use Rattle.frames.specs.Sampling.{leading}
 
 -- "Push at an equal time replaces"; at any other, k goes before the first frame with a later time
 unfoldable pub pushedOf : Keyframe → List Keyframe → List Keyframe
@@ -21,11 +20,3 @@ putOf fs n k =
     cond (leb (length l) 64)
     (record { frames = l ++ drop (length l) fs; count = length l; full = false })
     (record { frames = fs; count = n; full = true })
-
--- how many frames from the front are before a time
-abbrev pub earlierOf : Float → List Keyframe → ℕ
-earlierOf t l = leading (λ (k : Keyframe). lt (k .time) t) l
-
--- of n frames, those from p on one place up, k at p, and the places behind the frames kept
-unfoldable pub insertOf : List Keyframe → ℕ → ℕ → Keyframe → List Keyframe
-insertOf fs n p k = take p fs ++ k ∷ (take (n - p) (drop p fs) ++ drop (n + 1) fs)

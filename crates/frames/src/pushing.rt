@@ -2,7 +2,8 @@
 ghost use mathlib.Core.Path.{_≡_};
 ghost use Prim.Native.Nat.{_≤_, _<_};
 ghost use lib.ListN.{take};
-ghost use Rattle.frames.specs.Pushing.{earlierOf, insertOf, putOf};
+ghost use Rattle.frames.specs.Pushing.{putOf};
+ghost use Rattle.frames.specs.Inner.{earlierOf, insertOf};
 use crate::frame::Keyframe;
 use crate::frame::Put;
 

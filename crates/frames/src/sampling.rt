@@ -1,6 +1,6 @@
 // The value at a time, from the frames beside it.
 ghost use mathlib.Core.Path.{_≡_};
-ghost use Rattle.frames.specs.Sampling.{cutOf, spanOf, alongOf, easedOf, betweenOf, pickOf};
+ghost use Rattle.frames.specs.Sampling.{cutOf, spanOf, localProgress, easedOf, betweenOf, pickOf};
 use crate::frame::Keyframe;
 use bezier::Found;
 use easing::Eased;
@@ -33,7 +33,7 @@ pub fn eased(e: Easing, p: f32) -> Found
 
 // How far t is from one time to the next: 0 to 1.
 pub fn along(from: f32, to: f32, t: f32) -> f32
-    ensures { λ r. ⌜ r ≡ alongOf from to t ⌝ }
+    ensures { λ r. ⌜ r ≡ localProgress from to t ⌝ }
 {
     math::clamp01((t - from) / span_of(to - from))
 }

@@ -1,7 +1,7 @@
 // The interval of a time among ascending times.
 ghost use mathlib.Core.Path.{_≡_};
 ghost use Prim.Native.Nat.{_-_, _<_, _≤_};
-ghost use Rattle.frames.specs.Counting.{counted};
+ghost use Rattle.frames.specs.Inner.{counted};
 
 // How many of the first n times, the first and the last left out, are at or before t: on ascending
 // times the place of t's interval. No branch goes by t; with u32 the compiler counts four at once.

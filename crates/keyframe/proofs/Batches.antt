@@ -14,7 +14,7 @@ use Rattle.refusal.specs.Number.{numberOf}
 use Rattle.frames.specs.Sampling.{sampleOf, filledOf, unsettledOf}
 use Rattle.keyframe.specs.declared.types.Track.{Track}
 use Rattle.keyframe.specs.Limits.{framesIn, withinOf}
-use Rattle.keyframe.specs.Batch.{batchNumber, batchOut, batchCount, batchUnsettled}
+use Rattle.keyframe.specs.Batch.{batchNumber, batchOut, batchCount, batchUnsettled, BatchAt, BatchBehind, BatchRefused}
 
 module _ (t : Track) (times out : List Float) where
   pub number-broken : withinOf t ≡ false → numberOf RecordBreaksLimit ≡ batchNumber t times out
@@ -58,33 +58,29 @@ map-at f [] k h = absurd (omega (arith, h))
 map-at f (x ∷ l) zero h = refl
 map-at f (x ∷ l) (suc k) h = map-at f l k (omega (arith, h))
 
-module _ (t : Track) (times out : List Float) where
-  -- an accepted batch has the sample at each time
-  pub batch-at : batchNumber t times out ≡ 0 → (k : ℕ) → k < length times → getD (batchOut t times out) k nan ≡ sampleOf (framesIn t) (getD times k nan) .value
-  unfolding batchOut filledOf
-  batch-at e k h =
-      let f : Float → Float = λ s. sampleOf (framesIn t) s .value in
-      let l : length (map f times) ≡ length times = length-map times f in
-      rw e (List·getD-append (map f times) _ nan k (omega arith) ∙ map-at f times k h)
+pub batch-at : BatchAt
+unfolding batchOut filledOf
+batch-at t times out e k h =
+    let f : Float → Float = λ s. sampleOf (framesIn t) s .value in
+    let l : length (map f times) ≡ length times = length-map times f in
+    rw e (List·getD-append (map f times) _ nan k (omega arith) ∙ map-at f times k h)
 
-  behind-by : (b : Bool) (k : ℕ) → length times ≤ k → getD (cond b (filledOf (framesIn t) times out) out) k nan ≡ getD out k nan
-  unfolding filledOf
-  behind-by false k h = refl
-  behind-by true k h =
-      let f : Float → Float = λ s. sampleOf (framesIn t) s .value in
-      let n = length times in
-      let l : length (map f times) ≡ n = length-map times f in
-      let e : k ≡ length (map f times) + (k - n) = omega arith in
-      let g : n + (k - n) ≡ k = omega arith in
-      ap (λ (j : ℕ). getD (map f times ++ drop n out) j nan) e
-      ∙ (getD-append-add (map f times) (drop n out) (k - n) nan ∙ (getD-drop n out (k - n) nan ∙ ap (λ (j : ℕ). getD out j nan) g))
+behind-by : (t : Track) (times out : List Float) (b : Bool) (k : ℕ) → length times ≤ k → getD (cond b (filledOf (framesIn t) times out) out) k nan ≡ getD out k nan
+unfolding filledOf
+behind-by t times out false k h = refl
+behind-by t times out true k h =
+    let f : Float → Float = λ s. sampleOf (framesIn t) s .value in
+    let n = length times in
+    let l : length (map f times) ≡ n = length-map times f in
+    let e : k ≡ length (map f times) + (k - n) = omega arith in
+    let g : n + (k - n) ≡ k = omega arith in
+    ap (λ (j : ℕ). getD (map f times ++ drop n out) j nan) e
+    ∙ (getD-append-add (map f times) (drop n out) (k - n) nan ∙ (getD-drop n out (k - n) nan ∙ ap (λ (j : ℕ). getD out j nan) g))
 
-  -- what lies behind the front keeps its numbers
-  pub batch-behind : (k : ℕ) → length times ≤ k → getD (batchOut t times out) k nan ≡ getD out k nan
-  unfolding batchOut
-  batch-behind k h = behind-by (eqb (batchNumber t times out) 0) k h
+pub batch-behind : BatchBehind
+unfolding batchOut
+batch-behind t times out k h = behind-by t times out (eqb (batchNumber t times out) 0) k h
 
-  -- a refused batch writes nothing into the output, its front is empty, and nothing is unsettled
-  pub batch-refused : eqb (batchNumber t times out) 0 ≡ false → (batchOut t times out ≡ out) × (batchCount t times out ≡ 0) × (batchUnsettled t times out ≡ 0)
-  unfolding batchOut batchCount batchUnsettled
-  batch-refused e = (rw e, rw e, rw e)
+pub batch-refused : BatchRefused
+unfolding batchOut batchCount batchUnsettled
+batch-refused t times out e = (rw e, rw e, rw e)

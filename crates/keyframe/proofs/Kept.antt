@@ -21,7 +21,6 @@ use Rattle.math.proofs.Upward.{Up, add-up, mul-up, max-zero-up}
 use Rattle.math.proofs.Sizes.{at-most-finite, is-at-most}
 use Rattle.math.proofs.Ranges.{clamped}
 use Rattle.math.proofs.Wholes.{whole-is, zero-is, le-is}
-use Rattle.easing.specs.declared.kinds.Easing.{Easing}
 use Rattle.easing.specs.Kinds.{suppliedOf}
 use Rattle.easing.specs.Params as params
 use Rattle.easing.specs.Apply.{fitsRecordOf}
@@ -42,8 +41,9 @@ use Rattle.keyframe.specs.declared.types.Updated.{Updated}
 use Rattle.keyframe.specs.declared.types.End.{End}
 use Rattle.keyframe.specs.declared.types.End.the-variants.{At, Never}
 use Rattle.keyframe.specs.Limits.{framesIn, baseOf, overPasses, endOf, modeFits, clockFits, withinOf, Fine}
-use Rattle.keyframe.specs.Pushing.{newTrack, storedOf, laterOf, takesOf, withFrames, withMode, placedOf, pushOf, loopingOf}
-use Rattle.keyframe.specs.Stepping.{movedOf, advanceOf, updateOf, resetOf, spanIn, soughtOf, seekToOf}
+use Rattle.keyframe.specs.Pushing.{newTrack, storedOf, laterOf, takesOf, withFrames, withMode, placedOf, loopingOf}
+use Rattle.keyframe.specs.Stepping.{movedOf, advanceOf, resetOf, spanIn, soughtOf, seekToOf}
+use Rattle.keyframe.specs.Promises.{NewWithin, PushWithin, ModeWithin, UpdateWithin, ResetWithin, SeekWithin}
 use Rattle.keyframe.proofs.Records.{few-frames, frames-fine, elapsed-fine, mode-fine}
 use Rattle.keyframe.proofs.Changes.{by-push}
 use Rattle.keyframe.proofs.Moves.{by-update}
@@ -52,7 +52,7 @@ make : (t : Track) → t .count ≤ 64 → framesWithin (framesIn t) ≡ true �
 unfolding withinOf clockFits
 make t n f c m = rw (le-leb (t .count) 64 n, f, clock-test (t .elapsed) c, m)
 
-pub new-within : Fine newTrack
+pub new-within : NewWithin
 unfolding newTrack withinOf clockFits modeFits endOf durationOf framesAfter passes.withinOf le lt eq ofBits
 new-within = refl
 
@@ -120,37 +120,36 @@ module _ (t : Track) (fine : Fine t) where
       top-number : isNan topF ≡ false
       top-number = le-numbers zeroF topF (zero-clock .1) .1
 
-  pub update-within : (dt : Float) → Fine (updateOf t dt .track)
-  update-within dt =
-      by-update (λ (r : Updated). Fine (r .track)) t dt (λ _. fine) (λ _. fine)
-      (λ _. advance-within (endOf (t .looping) (baseOf t)) timely (t .elapsed ⊕ maxZeroOf dt) (add-up binary32 (t .elapsed) (maxZeroOf dt) (test-clock (t .elapsed) (elapsed-fine t fine) .0) (max-zero-up dt)))
-
-  pub reset-within : Fine (resetOf t .track)
-  unfolding resetOf
-  reset-within = rw fine (moved-within zeroF 0 false zero-clock)
-
-  -- seek_to
   span-clock : (end : End) → Timely end → Clock (spanIn end (baseOf t))
   span-clock (At total) k = k
   span-clock Never k = base-clock
 
-  pub seek-within : (p : Float) → Fine (seekToOf t p .track)
-  unfolding seekToOf soughtOf
-  seek-within p =
-      rw fine
-      (by-test (λ (r : Changed). Fine (r .track)) (isNan p) _ _ (λ _. fine)
-      (λ h.
-      let end = endOf (t .looping) (baseOf t) in
-      by-test Fine (eq (spanIn end (baseOf t)) zeroF) _ _ (λ _. moved-within zeroF 0 true zero-clock)
-      (λ _. moved-within (spanIn end (baseOf t) ⊗ clamp01Of p) _ _ (shrunk-clock (spanIn end (baseOf t)) (clamp01Of p) (span-clock end timely) (clamped p h)))))
+pub update-within : UpdateWithin
+update-within t fine dt =
+    by-update (λ (r : Updated). Fine (r .track)) t dt (λ _. fine) (λ _. fine)
+    (λ _. advance-within t fine (endOf (t .looping) (baseOf t)) (timely t fine) (t .elapsed ⊕ maxZeroOf dt) (add-up binary32 (t .elapsed) (maxZeroOf dt) (test-clock (t .elapsed) (elapsed-fine t fine) .0) (max-zero-up dt)))
 
-  pub mode-within : (m : Loop) → Fine (loopingOf t m .track)
-  unfolding loopingOf
-  mode-within m =
-      rw fine
-      (by-test (λ (r : Changed). Fine (r .track)) (modeFits m (baseOf t)) _ _
-      (λ h. make (withMode t m) (few-frames t fine) (frames-fine t fine) (test-clock (t .elapsed) (elapsed-fine t fine)) h)
-      (λ _. fine))
+pub reset-within : ResetWithin
+unfolding resetOf
+reset-within t fine = rw fine (moved-within t fine zeroF 0 false zero-clock)
+
+pub seek-within : SeekWithin
+unfolding seekToOf soughtOf
+seek-within t fine p =
+    rw fine
+    (by-test (λ (r : Changed). Fine (r .track)) (isNan p) _ _ (λ _. fine)
+    (λ h.
+    let end = endOf (t .looping) (baseOf t) in
+    by-test Fine (eq (spanIn end (baseOf t)) zeroF) _ _ (λ _. moved-within t fine zeroF 0 true zero-clock)
+    (λ _. moved-within t fine (spanIn end (baseOf t) ⊗ clamp01Of p) _ _ (shrunk-clock (spanIn end (baseOf t)) (clamp01Of p) (span-clock t fine end (timely t fine)) (clamped p h)))))
+
+pub mode-within : ModeWithin
+unfolding loopingOf
+mode-within t fine m =
+    rw fine
+    (by-test (λ (r : Changed). Fine (r .track)) (modeFits m (baseOf t)) _ _
+    (λ h. make (withMode t m) (few-frames t fine) (frames-fine t fine) (test-clock (t .elapsed) (elapsed-fine t fine)) h)
+    (λ _. fine))
 
 -- push
 before-zero : T (lt beforeAll zeroF)
@@ -177,7 +176,7 @@ module _ (t : Track) (fine : Fine t) (k : Keyframe) (good : frameWithin k ≡ tr
       make (withFrames t (l ++ drop (length l) (t .frames)) (length l)) (leb-true (length l) 64 h) (rw e grown-fine) (test-clock (t .elapsed) (elapsed-fine t fine)) (rw e grown-mode))
       (λ _. fine)
 
-pub push-within : (t : Track) → Fine t → (time value : Float) (e : Easing) → Fine (pushOf t time value e .track)
+pub push-within : PushWithin
 unfolding takesOf frameWithin fitsRecordOf
 push-within t fine time value e =
     by-push (λ (r : Changed). Fine (r .track)) t time value e (λ _. fine)

@@ -13,15 +13,15 @@ use Rattle.keyframe.specs.declared.types.End.the-variants.{At, Never}
 use Rattle.keyframe.specs.Limits.{baseOf, endOf, withinOf}
 use Rattle.keyframe.specs.Playback.{doneOf}
 use Rattle.keyframe.specs.Pushing.{refused, changed}
-use Rattle.keyframe.specs.Stepping.{movedOf, ran, halted, lostOf, finalOf, passedOf, advanceOf, updateOf, soughtOf, seekToOf}
+use Rattle.keyframe.specs.Stepping.{movedOf, ran, halted, lostOf, finalOf, passesMade, advanceOf, updateOf, soughtOf, seekToOf}
 
 module _ (t : Track) (sum : Float) where
   module _ (total : Float) (e : At total ≡ endOf (t .looping) (baseOf t)) where
-    pub arrives : le total sum ≡ true → ran (movedOf t total (finalOf (t .looping) (passedOf t sum)) true) false ≡ advanceOf (endOf (t .looping) (baseOf t)) t sum
+    pub arrives : le total sum ≡ true → ran (movedOf t total (finalOf (t .looping) (passesMade t sum)) true) false ≡ advanceOf (endOf (t .looping) (baseOf t)) t sum
     unfolding advanceOf
     arrives h = rw (← e, h)
 
-    pub goes-on : le total sum ≡ false → ran (movedOf t sum (passedOf t sum) false) true ≡ advanceOf (endOf (t .looping) (baseOf t)) t sum
+    pub goes-on : le total sum ≡ false → ran (movedOf t sum (passesMade t sum) false) true ≡ advanceOf (endOf (t .looping) (baseOf t)) t sum
     unfolding advanceOf
     goes-on h = rw (← e, h)
 
@@ -30,7 +30,7 @@ module _ (t : Track) (sum : Float) where
     unfolding advanceOf
     too-long h = rw (← e, h)
 
-    pub goes-round : lt topF sum ≡ false → ran (movedOf t sum (passedOf t sum) false) true ≡ advanceOf (endOf (t .looping) (baseOf t)) t sum
+    pub goes-round : lt topF sum ≡ false → ran (movedOf t sum (passesMade t sum) false) true ≡ advanceOf (endOf (t .looping) (baseOf t)) t sum
     unfolding advanceOf
     goes-round h = rw (← e, h)
 

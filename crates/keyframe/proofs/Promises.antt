@@ -9,13 +9,12 @@ use lib.ListN.{length, take, drop, getD}
 use lib.Seq.{take-at}
 use lib.Ieee.{Float, binary32, fits, lt, le, eq, ofBits}
 use Rattle.math.specs.Rounded.{_⊕_, zeroF, topF}
-use Rattle.math.specs.Range.{isFinite, maxZeroOf}
+use Rattle.math.specs.Range.{maxZeroOf}
 use Rattle.math.proofs.Choice.{by-test}
 use Rattle.math.proofs.Order.{equal-le, not-lt-of-le}
 use Rattle.refusal.specs.declared.Refusal.{Refusal}
 use Rattle.refusal.specs.declared.Refusal.the-variants.{ElapsedTooLong, TrackFull}
 use Rattle.bezier.specs.declared.types.Found.{Found}
-use Rattle.easing.specs.declared.kinds.Easing.{Easing}
 use Rattle.frames.specs.declared.frame.Keyframe.{Keyframe}
 use Rattle.frames.specs.declared.frame.Put.{Put}
 use Rattle.frames.specs.Limits.{framesWithin, beforeAll, noFrame}
@@ -34,8 +33,9 @@ use Rattle.keyframe.specs.declared.types.End.{End}
 use Rattle.keyframe.specs.declared.types.End.the-variants.{At, Never}
 use Rattle.keyframe.specs.Limits.{framesIn, baseOf, endOf, Fine}
 use Rattle.keyframe.specs.Playback.{doneOf}
-use Rattle.keyframe.specs.Stepping.{movedOf, ran, finalOf, passedOf, advanceOf, updateOf}
+use Rattle.keyframe.specs.Stepping.{movedOf, ran, finalOf, passesMade, advanceOf, updateOf}
 use Rattle.keyframe.specs.Pushing.{storedOf, placedOf, pushOf}
+use Rattle.keyframe.specs.Promises.{Ascending, PushSampled, SampleReal, AtFirst, AtLast, Running}
 use Rattle.keyframe.proofs.Records.{frames-fine}
 use Rattle.keyframe.proofs.Changes.{by-push}
 use Rattle.keyframe.proofs.Moves.{by-update}
@@ -76,27 +76,24 @@ placed-sampled t k F =
         rw s
         (subst (λ (x : Keyframe). eq (sampleOf l (x .time) .value) (x .value) ≡ true) e (sample-own l (rw s at fine) p h (subst⁻¹ (λ (x : Keyframe). T (fits binary32 (x .value))) e F)))
 
-pub push-sampled : (t : Track) → Fine t → (time value : Float) (e : Easing) → T (fits binary32 value) → pushOf t time value e .outcome ≡ Done
-    → eq (sampleOf (framesIn (pushOf t time value e .track)) time .value) value ≡ true
+pub push-sampled : PushSampled
 push-sampled t fine time value e F h = subst (λ (f : Found). eq (f .value) value ≡ true) (stored-same (framesIn (pushOf t time value e .track)) time) (sampled h (push-within t fine time value e))
   where
     sampled : Sampled (storedOf time) value (pushOf t time value e)
     sampled =
         by-push (Sampled (storedOf time) value) t time value e (λ r h _. never r h) (λ _ _ _. placed-sampled t (record { time = storedOf time; value = value; easing = e }) F)
 
-module _ (t : Track) (fine : Fine t) where
-  pub ascending : (i j : ℕ) → i < j → j < length (framesIn t) → T (lt (getD (framesIn t) i noFrame .time) (getD (framesIn t) j noFrame .time))
-  ascending = rising beforeAll (framesIn t) (frames-fine t fine)
+pub ascending : Ascending
+ascending t fine = rising beforeAll (framesIn t) (frames-fine t fine)
 
-  module _ (some : 0 < length (framesIn t)) where
-    pub sample-real : (secs : Float) → T (isFinite (sampleOf (framesIn t) secs .value))
-    sample-real = sample-finite (framesIn t) (frames-fine t fine) some
+pub sample-real : SampleReal
+sample-real t fine some = sample-finite (framesIn t) (frames-fine t fine) some
 
-    pub at-first : (secs : Float) → T (le secs (firstOf (framesIn t) .time)) → sampleOf (framesIn t) secs ≡ ownOf (firstOf (framesIn t))
-    at-first = sample-first (framesIn t) (frames-fine t fine) some
+pub at-first : AtFirst
+at-first t fine some = sample-first (framesIn t) (frames-fine t fine) some
 
-    pub at-last : (secs : Float) → T (le (lastOf (framesIn t) .time) secs) → sampleOf (framesIn t) secs ≡ ownOf (lastOf (framesIn t))
-    at-last = sample-last (framesIn t) (frames-fine t fine) some
+pub at-last : AtLast
+at-last t fine some = sample-last (framesIn t) (frames-fine t fine) some
 
 -- what an update tells of running
 abbrev Told : Updated → Type 0
@@ -123,17 +120,16 @@ goes t h e c = go (ltb (t .count) 2) h
 advance-told : (t : Track) → doneOf t ≡ false → (end : End) (sum : Float) → Told (advanceOf end t sum)
 unfolding advanceOf
 advance-told t h (At total) sum =
-    by-test Told (le total sum) _ _ (λ _. ran-told (movedOf t total (finalOf (t .looping) (passedOf t sum)) true) false (sym (ap not (or-true (ltb (t .count) 2)))))
-    (λ _. ran-told (movedOf t sum (passedOf t sum) false) true (sym (ap not (goes t h sum (passedOf t sum)))))
+    by-test Told (le total sum) _ _ (λ _. ran-told (movedOf t total (finalOf (t .looping) (passesMade t sum)) true) false (sym (ap not (or-true (ltb (t .count) 2)))))
+    (λ _. ran-told (movedOf t sum (passesMade t sum) false) true (sym (ap not (goes t h sum (passesMade t sum)))))
 advance-told t h Never sum =
     by-test Told (lt topF sum) _ _ (λ _ b k. unlike b ElapsedTooLong k)
-    (λ _. ran-told (movedOf t sum (passedOf t sum) false) true (sym (ap not (goes t h sum (passedOf t sum)))))
+    (λ _. ran-told (movedOf t sum (passesMade t sum) false) true (sym (ap not (goes t h sum (passesMade t sum)))))
 
 update-told : (t : Track) (dt : Float) → Told (updateOf t dt)
 update-told t dt =
     by-update Told t dt (λ r b k. unlike b r k) (λ h. ran-told t false (sym (ap not h)))
     (λ h. advance-told t h (endOf (t .looping) (baseOf t)) (t .elapsed ⊕ maxZeroOf dt))
 
--- `running` after an update: not complete, and two frames or more
-pub running : (t : Track) (dt : Float) (b : Bool) → updateOf t dt .stepped ≡ stepped.Ran b → b ≡ not (doneOf (updateOf t dt .track))
+pub running : Running
 running t dt b h = update-told t dt b h

@@ -4,4 +4,5 @@ pub mod Playback
 pub mod Sampling
 pub mod Batch
 pub mod Stepping
+pub mod Promises
 pub mod Values

@@ -60,13 +60,14 @@ unfoldable pub playbackIn : Track → InSeconds
 playbackIn t = inSeconds t (playbackOf (endOf (t .looping) (baseOf t)) (baseOf t))
 
 -- of the total; in the modes without one, of the pass
-abbrev pub alongOf : End → Track → Float
-alongOf (At total) t = ratioOf (t .elapsed) total
-alongOf Never t = ratioOf (activeOf t) (baseOf t)
+abbrev pub playbackProgress : End → Track → Float
+playbackProgress (At total) t = ratioOf (t .elapsed) total
+playbackProgress Never t = ratioOf (activeOf t) (baseOf t)
 
 unfoldable pub progressOf : Track → InProgress
 progressOf t =
-    unless (withinOf t) (progress.Refused RecordBreaksLimit) (progress.Progress (record { 0 = alongOf (endOf (t .looping) (baseOf t)) t }))
+    unless (withinOf t) (progress.Refused RecordBreaksLimit)
+    (progress.Progress (record { 0 = playbackProgress (endOf (t .looping) (baseOf t)) t }))
 
 -- "complete or fewer than two frames"
 abbrev pub doneOf : Track → Bool

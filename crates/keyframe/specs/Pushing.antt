@@ -8,7 +8,7 @@ use Rattle.math.specs.Rounded.{zeroF}
 use Rattle.math.specs.Range.{isValue}
 use Rattle.refusal.specs.declared.Refusal.{Refusal}
 use Rattle.refusal.specs.declared.Refusal.the-variants.{RecordBreaksLimit, EasingNotSupplied, EasingParameter, TrackLimit, TrackFull}
-use Rattle.refusal.specs.Refusing.{unless}
+use Rattle.refusal.specs.Refusing.{unless, when}
 use Rattle.easing.specs.declared.kinds.Easing.{Easing}
 use Rattle.easing.specs.Kinds.{suppliedOf}
 use Rattle.easing.specs.Params as params
@@ -74,7 +74,9 @@ withMode t m = remade t (t .frames) (t .count) m
 
 -- 9: "push into a full track at a time no frame has"
 unfoldable pub placedOf : Track → Put → Changed
-placedOf t p = cond (p .full) (refused t TrackFull) (changed (withFrames t (p .frames) (p .count)))
+placedOf t p =
+    when (p .full) (refused t TrackFull)
+    (changed (withFrames t (p .frames) (p .count)))
 
 -- the order of the refusals: 4, 2, 3, 11, 9
 unfoldable pub pushOf : Track → Float → Float → Easing → Changed
@@ -87,4 +89,7 @@ pushOf t time value e =
 
 -- 4, then 11: "a push or change of mode would break a track's pass or total limit"
 unfoldable pub loopingOf : Track → Loop → Changed
-loopingOf t m = unless (withinOf t) (refused t RecordBreaksLimit) (unless (modeFits m (baseOf t)) (refused t TrackLimit) (changed (withMode t m)))
+loopingOf t m =
+    unless (withinOf t) (refused t RecordBreaksLimit)
+    (unless (modeFits m (baseOf t)) (refused t TrackLimit)
+    (changed (withMode t m)))

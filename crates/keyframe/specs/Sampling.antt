@@ -12,7 +12,10 @@ use Rattle.keyframe.specs.Playback.{activeOf}
 
 -- 4, then 10: "sampling a track with no frames"
 unfoldable pub valueAtOf : Track → Float → Eased
-valueAtOf t secs = unless (withinOf t) (Refused RecordBreaksLimit) (unless (ltb 0 (t .count)) (Refused NoFrames) (Value (sampleOf (framesIn t) secs)))
+valueAtOf t secs =
+    unless (withinOf t) (Refused RecordBreaksLimit)
+    (unless (ltb 0 (t .count)) (Refused NoFrames)
+    (Value (sampleOf (framesIn t) secs)))
 
 -- at the active time
 abbrev pub valueNow : Track → Eased

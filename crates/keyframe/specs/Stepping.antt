@@ -7,7 +7,7 @@ use Rattle.math.specs.Range.{clamp01Of, maxZeroOf}
 use Rattle.math.specs.Whole.{wholePartOf}
 use Rattle.refusal.specs.declared.Refusal.{Refusal}
 use Rattle.refusal.specs.declared.Refusal.the-variants.{ProgressIsNan, RecordBreaksLimit, StepTooLong, StepLost, ElapsedTooLong}
-use Rattle.refusal.specs.Refusing.{unless}
+use Rattle.refusal.specs.Refusing.{unless, when}
 use Rattle.loop_mode.specs.declared.Loop.{Loop}
 use Rattle.loop_mode.specs.declared.Loop.the-variants.{Once, Times, Forever, PingPong, PingPongTimes}
 use Rattle.loop_mode.specs.Passes.{passesOf}
@@ -53,26 +53,32 @@ finalOf PingPong count = count
 finalOf (PingPongTimes n) count = passesOf n
 
 -- "loop_count is elapsed / last time, cut to a whole u32, at most 4,294,967,295, taken before elapsed is clipped"
-abbrev pub passedOf : Track → Float → ℕ
-passedOf t elapsed = wholePartOf (elapsed ⊘ baseOf t)
+abbrev pub passesMade : Track → Float → ℕ
+passesMade t elapsed = wholePartOf (elapsed ⊘ baseOf t)
 
 -- "Once, Times and PingPongTimes complete at their total with elapsed = total"; "Forever and PingPong: 8 past the limit"
 unfoldable pub advanceOf : End → Track → Float → Updated
-advanceOf (At total) t sum = cond (le total sum) (ran (movedOf t total (finalOf (t .looping) (passedOf t sum)) true) false) (ran (movedOf t sum (passedOf t sum) false) true)
-advanceOf Never t sum = cond (lt topF sum) (halted t ElapsedTooLong) (ran (movedOf t sum (passedOf t sum) false) true)
+advanceOf (At total) t sum =
+    cond (le total sum) (ran (movedOf t total (finalOf (t .looping) (passesMade t sum)) true) false)
+    (ran (movedOf t sum (passesMade t sum) false) true)
+advanceOf Never t sum =
+    when (lt topF sum) (halted t ElapsedTooLong)
+    (ran (movedOf t sum (passesMade t sum) false) true)
 
 -- the order of the refusals: 4, 5, 6, 8. "complete or fewer than two frames: no change"; "NaN, negatives: 0"
 unfoldable pub updateOf : Track → Float → Updated
 updateOf t dt =
     unless (withinOf t) (halted t RecordBreaksLimit)
-    (cond (lt topF dt) (halted t StepTooLong)
+    (when (lt topF dt) (halted t StepTooLong)
     (cond (doneOf t) (ran t false)
-    (cond (lostOf (t .elapsed) (maxZeroOf dt)) (halted t StepLost)
+    (when (lostOf (t .elapsed) (maxZeroOf dt)) (halted t StepLost)
     (advanceOf (endOf (t .looping) (baseOf t)) t (t .elapsed ⊕ maxZeroOf dt)))))
 
 -- "`reset`, `seek_to` as in the source"
 unfoldable pub resetOf : Track → Changed
-resetOf t = unless (withinOf t) (refused t RecordBreaksLimit) (changed (movedOf t zeroF 0 false))
+resetOf t =
+    unless (withinOf t) (refused t RecordBreaksLimit)
+    (changed (movedOf t zeroF 0 false))
 
 -- what a progress of 1 stands for: the total, and in the modes without one a pass
 abbrev pub spanIn : End → Float → Float
@@ -87,10 +93,12 @@ hasEnd Never = false
 unfoldable pub soughtOf : End → Track → Float → Track
 soughtOf end t p =
     let span = spanIn end (baseOf t) in
-    cond (eq span zeroF) (movedOf t zeroF 0 true) (movedOf t (span ⊗ p) (wholePartOf (span ⊗ p ⊘ spanOf (baseOf t))) (hasEnd end && le oneF p))
+    cond (eq span zeroF) (movedOf t zeroF 0 true)
+    (movedOf t (span ⊗ p) (wholePartOf (span ⊗ p ⊘ spanOf (baseOf t))) (hasEnd end && le oneF p))
 
 -- 4, then 1
 unfoldable pub seekToOf : Track → Float → Changed
 seekToOf t progress =
     unless (withinOf t) (refused t RecordBreaksLimit)
-    (cond (isNan progress) (refused t ProgressIsNan) (changed (soughtOf (endOf (t .looping) (baseOf t)) t (clamp01Of progress))))
+    (when (isNan progress) (refused t ProgressIsNan)
+    (changed (soughtOf (endOf (t .looping) (baseOf t)) t (clamp01Of progress))))

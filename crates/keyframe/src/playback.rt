@@ -1,7 +1,7 @@
 // Where a track stands.
 ghost use mathlib.Core.Path.{_≡_};
 ghost use Prim.Native.Nat.{_≤_};
-ghost use Rattle.keyframe.specs.Playback.{bounceOf, phaseOf, activeOf, activeTimeOf, durationIn, playbackOf, playbackIn, alongOf, progressOf, doneOf, completeOf};
+ghost use Rattle.keyframe.specs.Playback.{bounceOf, phaseOf, activeOf, activeTimeOf, durationIn, playbackOf, playbackIn, playbackProgress, progressOf, doneOf, completeOf};
 use crate::limits::end_of;
 use crate::limits::last_time;
 use crate::types::Completion;
@@ -69,7 +69,7 @@ fn playback(end: End, base: f32) -> f32
 
 fn along(end: End, track: Track) -> f32
     requires { ⌜ track .count ≤ 64 ⌝ }
-    ensures { λ r. ⌜ r ≡ alongOf end track ⌝ }
+    ensures { λ r. ⌜ r ≡ playbackProgress end track ⌝ }
 {
     match end {
         End::At(total) => math::ratio(track.elapsed, total),

@@ -15,7 +15,7 @@ use lib.Ieee.Exact.{HasValue}
 use lib.Ieee.Back.{round-whole}
 use Rattle.math.specs.Range.{AtMost}
 use Rattle.math.specs.Rounded.{zeroF, topF}
-use Rattle.math.specs.Whole.{ceilOf, wholePartOf}
+use Rattle.math.specs.Whole.{ceilOf, CeilingLeast, wholePartOf}
 use Rattle.math.proofs.Choice.{and-both, and-fails}
 use Rattle.math.proofs.Fitting.{no-size, held, no-fraction}
 use Rattle.math.proofs.WholePart.{part-below}
@@ -118,8 +118,7 @@ stays (fin true m e) t h k =
     none : (a d : ℕ) → a * 1 + 0 * 1 * d ≤ 0 → a ≡ 0
     none a d h = omega arith
 
--- the definition is what it says: a / d is at most its ceiling, and above every whole number below that
-pub ceiling-least : (a d : ℕ) → 0 < d → (a ≤ (a + (d - 1)) / d * d) × ((k : ℕ) → k < (a + (d - 1)) / d → k * d < a)
+pub ceiling-least : CeilingLeast
 ceiling-least a d D = (
   reach ((a + (d - 1)) / d * d) ((a + (d - 1)) % d) (div-add-mod' (a + (d - 1)) d) (mod-lt (a + (d - 1)) D),
   λ k l. short (k * d) (suc k * d) (suc-mul k d) (le-div-iff-mul-le D .0 l),

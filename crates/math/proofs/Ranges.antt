@@ -11,8 +11,8 @@ use lib.Ieee.{Float, nan, inf, fin, binary32, up, down, round, sum, add, mul, ne
 use lib.Ieee.Fits.{down-pos}
 use lib.Ieee.Order.{round-mono}
 use Rattle.math.specs.Whole.{Is}
-use Rattle.math.specs.Rounded.{_⊕_, _⊖_, _⊗_, zeroF, halfF, oneF, twoF}
-use Rattle.math.specs.Range.{isFinite, clampOf, clamp01Of, Within, AtMost}
+use Rattle.math.specs.Rounded.{_⊕_, _⊖_, _⊗_, zeroF, oneF, twoF}
+use Rattle.math.specs.Range.{isFinite, clamp01Of, Within, AtMost, ClampBetween, Clamped, UnderRoot, LessOne, Doubled, Turned}
 use Rattle.math.proofs.Choice.{by-test}
 use Rattle.math.proofs.Order.{le-sizes, not-lt-of-le, le-of-not-lt, le-numbers, le-self}
 use Rattle.math.proofs.Upward.{Up, up-none, sub-up, square-up}
@@ -21,7 +21,7 @@ use Rattle.math.proofs.Bounded.{one-within}
 use Rattle.math.proofs.Wholes.{one-is, whole-is, fraction-le}
 
 -- clamp
-pub clamp-between : (x lo hi : Float) → isNan x ≡ false → T (le lo hi) → T (le lo (clampOf x lo hi)) × T (le (clampOf x lo hi) hi)
+pub clamp-between : ClampBetween
 clamp-between x lo hi p h = go (lt x lo) (lt hi x) refl refl
   where
     ends : (isNan lo ≡ false) × (isNan hi ≡ false)
@@ -36,7 +36,7 @@ zero-one : T (le zeroF oneF)
 unfolding le lt eq ofBits
 zero-one = tt
 
-pub clamped : (x : Float) → isNan x ≡ false → Within (clamp01Of x)
+pub clamped : Clamped
 clamped x p = clamp-between x zeroF oneF p zero-one
 
 pub clamp-stays : (x : Float) → Within x → clamp01Of x ≡ x
@@ -68,14 +68,13 @@ rest z w =
     let h = within-at-most z w in
     at-most-within (oneF ⊖ z) (sub-up binary32 oneF z (within-finite z w) (w .1)) (sub-near binary32 1 one-held oneF z (one-within .0) (w .0) (within-at-most oneF one-within) h)
 
-pub under-root : (y : Float) → AtMost 1 y → Within (oneF ⊖ y ⊗ y)
+pub under-root : UnderRoot
 under-root y h = rest (y ⊗ y) (square y h)
 
--- the y of the circular curves: t - 1, 2 * t below a half, and -2 * t + 2 from a half on
-pub less-one : (t : Float) → Within t → AtMost 1 (t ⊖ oneF)
+pub less-one : LessOne
 less-one t w = sub-near binary32 1 one-held t oneF (w .0) (one-within .0) (within-at-most t w) (within-at-most oneF one-within)
 
-pub doubled : (t : Float) → Within t → lt t halfF ≡ true → AtMost 1 (twoF ⊗ t)
+pub doubled : Doubled
 unfolding mul le lt eq ofBits
 doubled nan w h = absurd (w .1)
 doubled (inf true) w h = absurd (w .0)
@@ -112,7 +111,7 @@ two-less (fin false m e) h k =
     (λ _. round-at-most binary32 1 one-held false (b - a) (down e * 1) (mul-pos (down-pos e) (zero-lt-suc 0)) (omega arith))
     (λ _. round-at-most binary32 1 one-held (ltb b a) (a - b) (down e * 1) (mul-pos (down-pos e) (zero-lt-suc 0)) (omega arith))
 
-pub turned : (t : Float) → Within t → lt t halfF ≡ false → AtMost 1 (neg twoF ⊗ t ⊕ twoF)
+pub turned : Turned
 unfolding mul neg le lt eq ofBits
 turned nan w h = absurd (w .1)
 turned (inf true) w h = absurd (w .0)

@@ -11,7 +11,7 @@ use lib.Ieee.{Float, nan, inf, fin, Format, up, down, round, sum, add, sub, mul,
 use lib.Ieee.Fits.{down-pos}
 use lib.Ieee.Order.{round-mono}
 use Rattle.math.specs.Rounded.{zeroF}
-use Rattle.math.specs.Range.{isFinite, maxZeroOf}
+use Rattle.math.specs.Range.{isFinite, maxZeroOf, MaxZeroUp}
 use Rattle.math.proofs.Fitting.{rounds-none}
 use Rattle.math.proofs.Order.{leq, le-sizes, le-numbers, lt-le, times-none}
 
@@ -119,7 +119,7 @@ square-up f (fin true m e) p = round-up f (m * up e * (m * up e)) (down e * down
 square-up f (fin false m e) p = round-up f (m * up e * (m * up e)) (down e * down e) (mul-pos (down-pos e) (down-pos e))
 
 -- max with 0
-pub max-zero-up : (x : Float) → Up (maxZeroOf x)
+pub max-zero-up : MaxZeroUp
 max-zero-up x = go (lt zeroF x) refl
   where
     go : (b : Bool) → lt zeroF x ≡ b → Up (cond b x zeroF)

@@ -8,16 +8,16 @@ use lib.IntN.{ℤ, pos}
 use lib.Dec.{leb, ltb, eqb, lit<}
 use lib.Pow.{pow-add, pow-lt}
 use borrow.Author.Tests.{lt-ltb, le-ltb, eq-eqb, ne-eqb, ltb-true, ltb-false, eqb-true, eqb-false}
-use lib.Ieee.{Float, nan, inf, fin, Format, prec, emax, low, up, down, round, sum, add, sub, mul, div, neg, lt, le, eq, isNan, ofInt, ofBits}
+use lib.Ieee.{Float, nan, inf, fin, Format, emax, low, up, down, round, sum, add, sub, mul, div, neg, lt, le, eq, isNan, ofInt, ofBits}
 use lib.Ieee.Exact.{round-exact}
 use lib.Ieee.Scale.{round-same}
 use lib.Ieee.Back.{round-whole}
 use lib.Ieee.Fits.{two, down-pos}
 use Rattle.math.specs.Rounded.{zeroF, oneF}
-use Rattle.math.specs.Whole.{Is}
+use Rattle.math.specs.Whole.{Is, WholeIs, AddExact, SubExact, MulExact, LtIs, EqIs, LeIs}
 use Rattle.math.proofs.Order.{le-turned, not-ltb}
 
-pub whole-is : (f : Format) (n : ℕ) → n ≤ 2 ^ prec f → Is (ofInt f (pos n)) n
+pub whole-is : WholeIs
 unfolding ofInt
 whole-is f n h = round-whole f false n h
 
@@ -136,33 +136,32 @@ module _ (f : Format) (x y : Float) (a b : ℕ) (v : Is x a) (w : Is y b) where
       ∙ round-same f false (m * up e * down d) (n * up d * down e) a b (mul-pos Q (down-pos e)) B (over (m * up e) (n * up d) a b (down e) (down d) p q))
       x y v w
 
-  -- exact where the format holds the result
-  pub add-exact : a + b ≤ 2 ^ prec f → Is (add f x y) (a + b)
-  add-exact h = subst⁻¹ (λ (z : Float). Is z (a + b)) add-is (whole-is f (a + b) h)
+-- exact where the format holds the result
+pub add-exact : AddExact
+add-exact f x y a b v w h = subst⁻¹ (λ (z : Float). Is z (a + b)) (add-is f x y a b v w) (whole-is f (a + b) h)
 
-  pub sub-exact : b ≤ a → a - b ≤ 2 ^ prec f → Is (sub f x y) (a - b)
-  sub-exact l h = subst⁻¹ (λ (z : Float). Is z (a - b)) (sub-is l) (whole-is f (a - b) h)
+pub sub-exact : SubExact
+sub-exact f x y a b v w l h = subst⁻¹ (λ (z : Float). Is z (a - b)) (sub-is f x y a b v w l) (whole-is f (a - b) h)
 
-  pub mul-exact : a * b ≤ 2 ^ prec f → Is (mul f x y) (a * b)
-  mul-exact h = subst⁻¹ (λ (z : Float). Is z (a * b)) mul-is (whole-is f (a * b) h)
+pub mul-exact : MulExact
+mul-exact f x y a b v w h = subst⁻¹ (λ (z : Float). Is z (a * b)) (mul-is f x y a b v w) (whole-is f (a * b) h)
 
-module _ (x y : Float) (a b : ℕ) (v : Is x a) (w : Is y b) where
-  pub lt-is : lt x y ≡ ltb a b
-  unfolding lt
-  lt-is =
-      by-form a b (λ x y. lt x y ≡ ltb a b)
-      (λ m e n d p q. ltb-scaled (m * up e * down d) (n * up d * down e) a b (down e * down d) (cross (m * up e) a (down e) (down d) p) (cross-right (n * up d) b (down e) (down d) q) (mul-pos (down-pos e) (down-pos d)))
-      x y v w
+pub lt-is : LtIs
+unfolding lt
+lt-is x y a b v w =
+    by-form a b (λ x y. lt x y ≡ ltb a b)
+    (λ m e n d p q. ltb-scaled (m * up e * down d) (n * up d * down e) a b (down e * down d) (cross (m * up e) a (down e) (down d) p) (cross-right (n * up d) b (down e) (down d) q) (mul-pos (down-pos e) (down-pos d)))
+    x y v w
 
-  pub eq-is : eq x y ≡ eqb a b
-  unfolding eq
-  eq-is =
-      by-form a b (λ x y. eq x y ≡ eqb a b)
-      (λ m e n d p q. and-true (eqb (m * up e * down d) (n * up d * down e))
-      ∙ eqb-scaled (m * up e * down d) (n * up d * down e) a b (down e * down d) (cross (m * up e) a (down e) (down d) p) (cross-right (n * up d) b (down e) (down d) q) (mul-pos (down-pos e) (down-pos d)))
-      x y v w
+pub eq-is : EqIs
+unfolding eq
+eq-is x y a b v w =
+    by-form a b (λ x y. eq x y ≡ eqb a b)
+    (λ m e n d p q. and-true (eqb (m * up e * down d) (n * up d * down e))
+    ∙ eqb-scaled (m * up e * down d) (n * up d * down e) a b (down e * down d) (cross (m * up e) a (down e) (down d) p) (cross-right (n * up d) b (down e) (down d) q) (mul-pos (down-pos e) (down-pos d)))
+    x y v w
 
-pub le-is : (x y : Float) (a b : ℕ) → Is x a → Is y b → le x y ≡ leb a b
+pub le-is : LeIs
 le-is x y a b v w = le-turned x y (is-number x a v) (is-number y b w) ∙ ap not (lt-is y x b a w v) ∙ not-ltb a b
 
 -- the whole number a against the fraction m * up e / down e

@@ -29,10 +29,10 @@ fn skim_step(t: Tween, number: u16, gap: u16, event: Event) -> Skimmed
     let Event::Step(step) = event else {
         return Skimmed::Unsure;
     };
-    let Glided::To { waited, now } = glide(t, step) else {
+    let Glided::To { waited, folding } = glide(t, step) else {
         return Skimmed::Unsure;
     };
-    Skimmed::To(number, gap, waited, now)
+    Skimmed::To(number, gap, waited, folding)
 }
 
 // sure: the tween is known to be within its limits.

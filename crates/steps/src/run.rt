@@ -50,14 +50,14 @@ fn run_on(first: Tween, steps: &[f32], values: &mut [f32], folds: &mut [u32]) ->
     let mut i: usize = 0;
     while i < steps.len() {
         match glide(t, steps[i]) {
-            Glided::To { waited, now } => {
-                t.elapsed = now.elapsed;
+            Glided::To { waited, folding } => {
+                t.elapsed = folding.elapsed;
                 t.delay_elapsed = waited;
-                t.loop_count = now.loop_count;
-                t.ping_pong_reverse = now.ping_pong_reverse;
+                t.loop_count = folding.loop_count;
+                t.ping_pong_reverse = folding.ping_pong_reverse;
                 let found = sure_value(t);
                 values[i] = found.value;
-                folds[i] = now.folds;
+                folds[i] = folding.folds;
                 unsettled += !found.settled as usize;
                 i += 1;
             }

@@ -1,7 +1,5 @@
 -- "Each refusal hands back the record unchanged"; and an accepted call touches nothing but what it is to change: given back, that gives back the tween. Assumes nothing.
-use Prim.Native.Nat.{ℕ}
 use mathlib.Core.Path.{_≡_, refl, subst}
-use mathlib.Core.Bool.{Bool}
 use lib.Ieee.{Float, isNan}
 use Rattle.math.specs.Range.{maxZeroOf}
 use Rattle.math.proofs.Choice.{by-test}
@@ -15,7 +13,7 @@ use Rattle.tween.specs.Parts.{withEnds, put, snapshotIn, moved}
 use Rattle.tween.specs.Limits.{withinOf}
 use Rattle.tween.specs.Calls.{limited, soughtIn, resetOf, seekOf, reverseOf, pauseOf, resumeOf}
 use Rattle.tween.specs.Update.{updateOf}
-use Rattle.tween.specs.Promises.{HandsBack, UpdateHandsBack, sumBy}
+use Rattle.tween.specs.Promises.{HandsBack, ResetHandsBack, SeekHandsBack, ReverseHandsBack, PauseHandsBack, ResumeHandsBack, HandsBackUpdated, UpdateHandsBack, ResetTouches, UpdateTouches, SeekTouches, ReverseTouches, PauseTouches, ResumeTouches, sumBy}
 use Rattle.tween.proofs.Ways.{by-advanced, by-update}
 
 -- f makes t again of the tween that an accepted call hands back; a refusal hands t itself back
@@ -70,50 +68,49 @@ module _ (t : Tween) where
   unfolding resumeOf
   resume-gives = gives (state-back t) _ refl
 
-  pub reset-hands-back : HandsBack t (resetOf t)
-  reset-hands-back = hands (moved-back t) t (resetOf t) reset-gives
+pub reset-hands-back : ResetHandsBack
+reset-hands-back t = hands (moved-back t) t (resetOf t) (reset-gives t)
 
-  pub seek-hands-back : (p : Float) → HandsBack t (seekOf t p)
-  seek-hands-back p = hands (sought-back t) t (seekOf t p) (seek-gives p)
+pub seek-hands-back : SeekHandsBack
+seek-hands-back t p = hands (sought-back t) t (seekOf t p) (seek-gives t p)
 
-  pub reverse-hands-back : HandsBack t (reverseOf t)
-  reverse-hands-back = hands (turned-back t) t (reverseOf t) reverse-gives
+pub reverse-hands-back : ReverseHandsBack
+reverse-hands-back t = hands (turned-back t) t (reverseOf t) (reverse-gives t)
 
-  pub pause-hands-back : HandsBack t (pauseOf t)
-  pause-hands-back = hands (state-back t) t (pauseOf t) pause-gives
+pub pause-hands-back : PauseHandsBack
+pause-hands-back t = hands (state-back t) t (pauseOf t) (pause-gives t)
 
-  pub resume-hands-back : HandsBack t (resumeOf t)
-  resume-hands-back = hands (state-back t) t (resumeOf t) resume-gives
+pub resume-hands-back : ResumeHandsBack
+resume-hands-back t = hands (state-back t) t (resumeOf t) (resume-gives t)
 
-  -- reset: what moves. seek: elapsed and the state. reverse: these and the ends. pause, resume: the state
-  pub reset-touches : (u : Tween) → resetOf t ≡ Done u → put (snapshotIn t) u ≡ t
-  reset-touches u e = subst (Gives (moved-back t) t) e reset-gives
+pub reset-touches : ResetTouches
+reset-touches t u e = subst (Gives (moved-back t) t) e (reset-gives t)
 
-  pub seek-touches : (u : Tween) (p : Float) → seekOf t p ≡ Done u → put (moved (t .elapsed) (t .state) u) u ≡ t
-  seek-touches u p e = subst (Gives (sought-back t) t) e (seek-gives p)
+pub seek-touches : SeekTouches
+seek-touches t u p e = subst (Gives (sought-back t) t) e (seek-gives t p)
 
-  pub reverse-touches : (u : Tween) → reverseOf t ≡ Done u → withEnds (u .end) (u .start) (moved (t .elapsed) (t .state) u) u ≡ t
-  reverse-touches u e = subst (Gives (turned-back t) t) e reverse-gives
+pub reverse-touches : ReverseTouches
+reverse-touches t u e = subst (Gives (turned-back t) t) e (reverse-gives t)
 
-  pub pause-touches : (u : Tween) → pauseOf t ≡ Done u → put (moved (u .elapsed) (t .state) u) u ≡ t
-  pause-touches u e = subst (Gives (state-back t) t) e pause-gives
+pub pause-touches : PauseTouches
+pause-touches t u e = subst (Gives (state-back t) t) e (pause-gives t)
 
-  pub resume-touches : (u : Tween) → resumeOf t ≡ Done u → put (moved (u .elapsed) (t .state) u) u ≡ t
-  resume-touches u e = subst (Gives (state-back t) t) e resume-gives
+pub resume-touches : ResumeTouches
+resume-touches t u e = subst (Gives (state-back t) t) e (resume-gives t)
 
-  -- update: what moves
-  abbrev Kept : Updated → Type 0
-  Kept a = UpdateGives (moved-back t) t a
+-- update: what moves
+abbrev Kept : Tween → Updated → Type 0
+Kept t a = UpdateGives (moved-back t) t a
 
-  update-gives : (x : Float) → Kept (updateOf t x)
-  update-gives x = by-update Kept t refl refl refl (λ _. refl) (λ _. refl) (λ w. refl) x (λ w. by-advanced Kept t w (sumBy (maxZeroOf x) t (t .state)) (λ _. refl) (λ _ _. refl) (λ _. refl))
+update-gives : (t : Tween) (x : Float) → Kept t (updateOf t x)
+update-gives t x = by-update (Kept t) t refl refl refl (λ _. refl) (λ _. refl) (λ w. refl) x (λ w. by-advanced (Kept t) t w (sumBy (maxZeroOf x) t (t .state)) (λ _. refl) (λ _ _. refl) (λ _. refl))
 
-  pub update-hands-back : (x : Float) → UpdateHandsBack t (updateOf t x)
-  update-hands-back x = go (updateOf t x) (update-gives x)
-    where
-      go : (a : Updated) → Kept a → UpdateHandsBack t a
-      go (updated.Ran u k r) h = tt
-      go (updated.Refused u r) h = h
+pub update-hands-back : UpdateHandsBack
+update-hands-back t x = go (updateOf t x) (update-gives t x)
+  where
+    go : (a : Updated) → Kept t a → HandsBackUpdated t a
+    go (updated.Ran u k r) h = tt
+    go (updated.Refused u r) h = h
 
-  pub update-touches : (u : Tween) (x : Float) (k : ℕ) (r : Bool) → updateOf t x ≡ updated.Ran u k r → put (snapshotIn t) u ≡ t
-  update-touches u x k r e = subst Kept e (update-gives x)
+pub update-touches : UpdateTouches
+update-touches t u x k r e = subst (Kept t) e (update-gives t x)

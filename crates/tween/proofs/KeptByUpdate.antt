@@ -1,5 +1,4 @@
 -- "A tween that an accepted update hands back is itself within these limits, unless its loop_count has just passed 16,777,216". Assumes nothing.
-use Prim.Native.Nat.{ℕ}
 use mathlib.Core.Path.{_≡_, refl, subst, subst⁻¹}
 use mathlib.Core.Bool.{Bool, true, false, _&&_, false≢true}
 use lib.Dec.{T, lit≤}
@@ -22,10 +21,10 @@ use Rattle.tween.specs.declared.answers.Updated.{Updated}
 use Rattle.tween.specs.declared.answers.Updated.the-variants as updated
 use Rattle.folds.specs.declared.Folding.{Folding}
 use Rattle.tween.specs.Parts.{put}
-use Rattle.tween.specs.Limits.{topWait, settingsWithin, idleBelow, clockWithin, countWithin, withinOf}
+use Rattle.tween.specs.Limits.{topWait, settingsWithin, idleBelow, clockWithin, withinOf}
 use Rattle.folds.specs.Folds.{foldOnce, due, foldsOf}
 use Rattle.tween.specs.Update.{beginAt, atOnce, afterFolds, ran, advanced, waiting, lostOf, waitOf, runOf, byState, updateOf}
-use Rattle.tween.specs.Promises.{keepsButCount}
+use Rattle.tween.specs.Promises.{keepsButCount, UpdateKeeps, UpdateWithin}
 use Rattle.folds.proofs.Ways.{by-fold, is-due, not-due, folds-keep}
 use Rattle.tween.proofs.Ways.{foldedFrom, by-advanced}
 use Rattle.tween.proofs.Bounds.{top-wait-is, Limits, limits, settings-stay, between, clock, within, waited, elapsed}
@@ -138,7 +137,7 @@ step-to x h =
     (λ k. le-of-not-lt topF x (le-numbers zeroF topF zero-top .1) (le-numbers zeroF x (lt-le zeroF x (subst⁻¹ T k tt)) .1) h)
     (λ _. zero-top)
 
-pub update-keeps : (t : Tween) (x : Float) → T (keepsButCount (updateOf t x))
+pub update-keeps : UpdateKeeps
 unfolding updateOf
 update-keeps t x =
     by-test Fine (withinOf t) _ _
@@ -147,7 +146,7 @@ update-keeps t x =
     by-test Fine (lt topF x) _ _ (λ _. tt) (λ g. by-state-fine t i (maxZeroOf x) (max-zero-up x) (step-to x g) (t .state) (i .idle)))
     (λ _. tt)
 
-pub update-within : (t u : Tween) (x : Float) (k : ℕ) (r : Bool) → updateOf t x ≡ updated.Ran u k r → T (countWithin u) → T (withinOf u)
+pub update-within : UpdateWithin
 update-within t u x k r e h =
     let f : T (settingsWithin u && clockWithin u) = subst Fine e (update-keeps t x) in
     within u (and-l (settingsWithin u) (clockWithin u) f) (and-r (settingsWithin u) (clockWithin u) f) h

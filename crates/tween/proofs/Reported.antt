@@ -3,7 +3,6 @@ use Prim.Native.Nat.{ℕ, zero, suc, _+_, _≤_}
 use native.Mathlib.Nat.{le-refl}
 use native.Mathlib.Omega.{arith}
 use mathlib.Core.Path.{_≡_, refl, sym, ap, _∙_, subst, subst⁻¹}
-use mathlib.Core.Logic.{_↔_}
 use mathlib.Core.Bool.{Bool, true, false, not, _&&_, cond, true≢false}
 use borrow.Author.Tests.{not-true}
 use lib.Dec.{T}
@@ -25,7 +24,7 @@ use Rattle.folds.specs.declared.Folding.{Folding}
 use Rattle.folds.specs.Folds.{foldOnce, due, foldsOf}
 use Rattle.tween.specs.Update.{beginAt, advanced, lostOf, waitOf, runOf, byState, updateOf}
 use Rattle.tween.specs.Limits.{withinOf}
-use Rattle.tween.specs.Promises.{isCompleted, sumBy, runsOn, comesToFold, foldTimes, TooFew}
+use Rattle.tween.specs.Promises.{isCompleted, sumBy, runsOn, comesToFold, foldTimes, TooFew, UpdateFolds, UpdateRunning, UpdateSevenExactly}
 use Rattle.folds.proofs.Ways.{fold-counts}
 use Rattle.tween.proofs.Ways.{foldedFrom, by-advanced, by-update}
 
@@ -49,7 +48,7 @@ few t x =
     let p = beginAt t (sumBy (maxZeroOf x) t (t .state)) in
     by-advanced Few t w (sumBy (maxZeroOf x) t (t .state)) (λ _. omega arith) (λ _ _. tt) (λ _. folds-few 4096 (due (t .duration) p) (t .looping) (t .duration) p))
 
-pub update-folds : (t u : Tween) (x : Float) (k : ℕ) (r : Bool) → updateOf t x ≡ Ran u k r → k ≤ 4096
+pub update-folds : UpdateFolds
 update-folds t u x k r e = subst Few e (few t x)
 
 -- running
@@ -66,7 +65,7 @@ tells t x =
     by-update Tells t tt tt tt (λ h. sym (ap (λ (s : TweenState). not (isCompleted s)) h)) (λ h. sym (ap (λ (s : TweenState). not (isCompleted s)) h)) (λ w. refl) x
     (λ w. by-advanced Tells t w (sumBy (maxZeroOf x) t (t .state)) (λ _. refl) (λ _ _. tt) (λ _. ran-tells (foldedFrom t (sumBy (maxZeroOf x) t (t .state)) .completed)))
 
-pub update-running : (t u : Tween) (x : Float) (k : ℕ) (r : Bool) → updateOf t x ≡ Ran u k r → r ≡ not (isCompleted (u .state))
+pub update-running : UpdateRunning
 update-running t u x k r e = subst Tells e (tells t x)
 
 -- 7. Where a fold is due after n folds at most, one was due after each number up to n
@@ -150,25 +149,24 @@ module _ (t : Tween) where
       (λ l k. and-i (withinOf t && not (lt topF x)) r (rw (w, l) tt) (seven-runs (maxZeroOf x) (t .state) k)))
       (λ _ k. absurd (omega arith))
 
-  -- 7 exactly when an update comes to fold and 4,096 folds do not suffice
-  pub update-seven-exactly : (x : Float) → (updateOf t x ≡ Refused t TooManyFolds) ↔ (T (comesToFold t x) × TooFew t (sumBy (maxZeroOf x) t (t .state)))
-  unfolding updateOf
-  update-seven-exactly x = (λ h. (comes h, update-seven t x h .1), λ h. due-then (h .0) (h .1))
-    where
-      comes : updateOf t x ≡ Refused t TooManyFolds → T (comesToFold t x)
-      comes h =
-          let r = runsOn (maxZeroOf x) t (t .state) in
-          let a = seven-reaches x (subst⁻¹ Seven h refl) in
-          let z = update-seven t x h .0 in
-          and-i (withinOf t && not (lt topF x) && r) (not (eq (t .duration) zeroF)) a (rw z tt)
+pub update-seven-exactly : UpdateSevenExactly
+unfolding updateOf
+update-seven-exactly t x = (λ h. (comes h, update-seven t t x h .1), λ h. due-then (h .0) (h .1))
+  where
+    comes : updateOf t x ≡ Refused t TooManyFolds → T (comesToFold t x)
+    comes h =
+        let r = runsOn (maxZeroOf x) t (t .state) in
+        let a = seven-reaches t x (subst⁻¹ Seven h refl) in
+        let z = update-seven t t x h .0 in
+        and-i (withinOf t && not (lt topF x) && r) (not (eq (t .duration) zeroF)) a (rw z tt)
 
-      due-then : T (comesToFold t x) → TooFew t (sumBy (maxZeroOf x) t (t .state)) → updateOf t x ≡ Refused t TooManyFolds
-      due-then h few =
-          let r = runsOn (maxZeroOf x) t (t .state) in
-          let e = withinOf t && not (lt topF x) in
-          let d = not (eq (t .duration) zeroF) in
-          let a : T (e && r) = and-l (e && r) d h in
-          let b : T e = and-l e r a in
-          let k = folds-by (maxZeroOf x) (t .state) (and-r e r a) in
-          rw (is-true (withinOf t) (and-l (withinOf t) (not (lt topF x)) b), failed (lt topF x) (and-r (withinOf t) (not (lt topF x)) b))
-          (k .1 ∙ seven-due (k .0) (sumBy (maxZeroOf x) t (t .state)) (failed (eq (t .duration) zeroF) (and-r (e && r) d h)) few)
+    due-then : T (comesToFold t x) → TooFew t (sumBy (maxZeroOf x) t (t .state)) → updateOf t x ≡ Refused t TooManyFolds
+    due-then h few =
+        let r = runsOn (maxZeroOf x) t (t .state) in
+        let e = withinOf t && not (lt topF x) in
+        let d = not (eq (t .duration) zeroF) in
+        let a : T (e && r) = and-l (e && r) d h in
+        let b : T e = and-l e r a in
+        let k = folds-by t (maxZeroOf x) (t .state) (and-r e r a) in
+        rw (is-true (withinOf t) (and-l (withinOf t) (not (lt topF x)) b), failed (lt topF x) (and-r (withinOf t) (not (lt topF x)) b))
+        (k .1 ∙ seven-due t (k .0) (sumBy (maxZeroOf x) t (t .state)) (failed (eq (t .duration) zeroF) (and-r (e && r) d h)) few)

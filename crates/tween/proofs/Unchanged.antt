@@ -11,9 +11,9 @@ use Rattle.easing.proofs.Unchanged.{apply-unchanged}
 use Rattle.tween.specs.declared.record.Tween.{Tween}
 use Rattle.tween.specs.Limits.{withinOf}
 use Rattle.tween.specs.Calls.{progressIn, easedProgressOf, blendIn, valueOf}
-use Rattle.tween.specs.Values.{easedProgressAlone, blendAlone, valueAlone}
+use Rattle.tween.specs.Values.{easedProgressAlone, blendAlone, valueAlone, EasedProgressUnchanged, ValueUnchanged}
 
-pub eased-progress-unchanged : (t : Tween) → valuePart (easedProgressOf t) ≡ easedProgressAlone t
+pub eased-progress-unchanged : EasedProgressUnchanged
 unfolding easedProgressOf easedProgressAlone
 eased-progress-unchanged t = of-picked valuePart (withinOf t) _ _ _ _ (apply-unchanged (t .easing) (progressIn t)) refl
 
@@ -21,7 +21,7 @@ blend-unchanged : (t : Tween) (a : Eased) → valuePart (blendIn t a) ≡ blendA
 blend-unchanged t (Value f) = refl
 blend-unchanged t (Refused r) = refl
 
-pub value-unchanged : (t : Tween) → valuePart (valueOf t) ≡ valueAlone t
+pub value-unchanged : ValueUnchanged
 unfolding valueOf valueAlone
 value-unchanged t =
     of-picked valuePart (withinOf t) _ _ _ _

@@ -2,7 +2,7 @@
 use mathlib.Core.Path.{_≡_, refl, subst⁻¹}
 use mathlib.Core.Bool.{true}
 use lib.Dec.{T, lit≤}
-use lib.Ieee.{Float, binary32, eq}
+use lib.Ieee.{binary32, eq}
 use lib.Ieee.Bits.{is-true}
 use Rattle.math.specs.Rounded.{zeroF, oneF, _⊘_}
 use Rattle.math.specs.Range.{clamp01Of, Within, AtMost}
@@ -14,7 +14,7 @@ use Rattle.math.proofs.Numbers.{div-number}
 use Rattle.math.proofs.Bounded.{one-within, blend-most}
 use Rattle.math.proofs.Ranges.{clamped}
 use Rattle.bezier.specs.declared.types.Found.{Found}
-use Rattle.bezier.specs.Search.{foundAt, withValue}
+use Rattle.bezier.specs.Bezier.{plainOf, withValue}
 use Rattle.units.specs.declared.InProgress.the-variants as progress
 use Rattle.easing.specs.declared.answers.Eased.{Eased}
 use Rattle.easing.specs.declared.answers.Eased.the-variants.{Value}
@@ -23,6 +23,7 @@ use Rattle.easing.proofs.Finite.{apply-bounded}
 use Rattle.tween.specs.declared.record.Tween.{Tween}
 use Rattle.tween.specs.Limits.{withinOf}
 use Rattle.tween.specs.Calls.{progressIn, progressOf, easedProgressOf, blendAt, blendIn, valueOf}
+use Rattle.tween.specs.Promises.{ProgressAnswers, EasedProgressAnswers, ValueAnswers}
 use Rattle.tween.proofs.Bounds.{Limits, limits}
 use Rattle.easing.proofs.Answering.{fits-answers}
 
@@ -43,16 +44,8 @@ module _ (t : Tween) (h : T (withinOf t)) where
       by-test Within (eq d zeroF) oneF (clamp01Of (t .elapsed ⊘ d)) (λ _. one-within)
       (λ z. clamped (t .elapsed ⊘ d) (div-number binary32 (t .elapsed) d (at-most-finite 16777216 (t .elapsed) (i .elapsed-most)) (at-most-finite 16777216 d (i .duration-most)) z))
 
-  pub progress-answers : (p : Float) × (progressOf t ≡ progress.Progress (record { 0 = p })) × Within p
-  unfolding progressOf
-  progress-answers = (progressIn t, rw within, progress-within)
-
   eased : (f : Found) × (applyOf (t .easing) (progressIn t) ≡ Value f)
   eased = fits-answers (t .easing) (progressIn t) (i .easing-fits) (le-numbers zeroF (progressIn t) (progress-within .0) .1)
-
-  pub eased-progress-answers : (f : Found) × (easedProgressOf t ≡ Value f) × AtMost 134217728 (f .value)
-  unfolding easedProgressOf
-  eased-progress-answers = (eased .0, rw within (eased .1), apply-bounded (t .easing) (progressIn t) (eased .0) (eased .1))
 
   blended : Finite (blendIn t (applyOf (t .easing) (progressIn t)))
   blended =
@@ -66,9 +59,19 @@ module _ (t : Tween) (h : T (withinOf t)) where
             (λ _. blend-most (t .end) (t .start) c (i .end-most) (i .start-most) m) (λ _. blend-most (t .start) (t .end) c (i .start-most) (i .end-most) m),
       )
 
-  pub value-answers : Finite (valueOf t)
-  unfolding valueOf
-  value-answers =
-      rw within
-      (by-test Finite (eq (t .duration) zeroF) (Value (foundAt true (t .end))) (blendIn t (applyOf (t .easing) (progressIn t)))
-      (λ _. (foundAt true (t .end), refl, at-most-more 16777216 9007199254740992 (t .end) (lit≤ tt) (i .end-most))) (λ _. blended))
+pub progress-answers : ProgressAnswers
+unfolding progressOf
+progress-answers t h = (progressIn t, rw (within t h), progress-within t h)
+
+pub eased-progress-answers : EasedProgressAnswers
+unfolding easedProgressOf
+eased-progress-answers t h =
+    let e = eased t h in
+    (e .0, rw (within t h) (e .1), apply-bounded (t .easing) (progressIn t) (e .0) (e .1))
+
+pub value-answers : ValueAnswers
+unfolding valueOf
+value-answers t h =
+    rw (within t h)
+    (by-test Finite (eq (t .duration) zeroF) (Value (plainOf (t .end))) (blendIn t (applyOf (t .easing) (progressIn t)))
+    (λ _. (plainOf (t .end), refl, at-most-more 16777216 9007199254740992 (t .end) (lit≤ tt) (limits t h .end-most))) (λ _. blended t h))

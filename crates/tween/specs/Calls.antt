@@ -1,12 +1,12 @@
 -- Document 01, "The tween" and "Refusal numbers": the calls that read a tween, and those that change it, but for `update`. Each refuses 4 first.
-use mathlib.Core.Bool.{true, false, cond}
+use mathlib.Core.Bool.{false, cond}
 use lib.Ieee.{Float, inf, lt, eq, isNan}
 use Rattle.math.specs.Rounded.{_⊕_, _⊖_, _⊗_, wholeF, zeroF}
 use Rattle.math.specs.Range.{clampOf, clamp01Of, maxZeroOf}
 use Rattle.math.specs.Blend.{ratioOf, blendOf}
-use Rattle.bezier.specs.Search.{foundAt, withValue}
+use Rattle.bezier.specs.Bezier.{plainOf, withValue}
 use Rattle.refusal.specs.declared.Refusal.the-variants.{ProgressIsNan, RecordBreaksLimit}
-use Rattle.refusal.specs.Refusing.{unless}
+use Rattle.refusal.specs.Refusing.{unless, when}
 use Rattle.units.specs.declared.InSeconds.{InSeconds}
 use Rattle.units.specs.declared.InSeconds.the-variants as seconds
 use Rattle.units.specs.declared.InProgress.{InProgress}
@@ -52,7 +52,7 @@ blendIn t (eased.Refused r) = eased.Refused r
 unfoldable pub valueOf : Tween → Eased
 valueOf t =
     unless (withinOf t) (eased.Refused RecordBreaksLimit)
-    (cond (eq (t .duration) zeroF) (eased.Value (foundAt true (t .end))) (blendIn t (applyOf (t .easing) (progressIn t))))
+    (cond (eq (t .duration) zeroF) (eased.Value (plainOf (t .end))) (blendIn t (applyOf (t .easing) (progressIn t))))
 
 unfoldable pub snapshotOf : Tween → Snapped
 snapshotOf t = unless (withinOf t) (snapped.Refused RecordBreaksLimit) (snapped.Snapshot (snapshotIn t))
@@ -103,11 +103,16 @@ abbrev pub soughtIn : Tween → Float → Tween
 soughtIn t p = put (moved (maxZeroOf (clamp01Of p ⊗ t .duration)) (woken (t .state)) t) t
 
 unfoldable pub seekOf : Tween → Float → Changed
-seekOf t p = limited t (cond (isNan p) (Refused t ProgressIsNan) (Done (soughtIn t p)))
+seekOf t p =
+    limited t
+    (when (isNan p) (Refused t ProgressIsNan)
+    (Done (soughtIn t p)))
 
 -- "`reverse` exchanges start and end, elapsed becomes duration less elapsed, clamped; Completed becomes Running"
 unfoldable pub reverseOf : Tween → Changed
-reverseOf t = limited t (Done (withEnds (t .end) (t .start) (moved (clampOf (t .duration ⊖ t .elapsed) zeroF (t .duration)) (woken (t .state)) t) t))
+reverseOf t =
+    let left = clampOf (t .duration ⊖ t .elapsed) zeroF (t .duration) in
+    limited t (Done (withEnds (t .end) (t .start) (moved left (woken (t .state)) t) t))
 
 -- "`pause` acts only on Running"
 abbrev pub paused : TweenState → TweenState

@@ -11,7 +11,7 @@ use Rattle.tween.specs.declared.record.TweenState.the-variants.{Running}
 
 -- t with other ends, and with what a snapshot says for all that moves
 abbrev pub withEnds : Float → Float → TweenSnapshot → Tween → Tween
-withEnds a b now t =
+withEnds a b s t =
     record {
       start = a;
       end = b;
@@ -20,16 +20,16 @@ withEnds a b now t =
       delay = t .delay;
       «time_scale» = t .«time_scale»;
       looping = t .looping;
-      elapsed = now .elapsed;
-      «delay_elapsed» = now .«delay_elapsed»;
-      state = now .state;
-      «loop_count» = now .«loop_count»;
-      «ping_pong_reverse» = now .«ping_pong_reverse»;
+      elapsed = s .elapsed;
+      «delay_elapsed» = s .«delay_elapsed»;
+      state = s .state;
+      «loop_count» = s .«loop_count»;
+      «ping_pong_reverse» = s .«ping_pong_reverse»;
     }
 
 -- t moved to a snapshot
 abbrev pub put : TweenSnapshot → Tween → Tween
-put now t = withEnds (t .start) (t .end) now t
+put s t = withEnds (t .start) (t .end) s t
 
 -- what moves in t, with another elapsed and state
 abbrev pub moved : Float → TweenState → Tween → TweenSnapshot

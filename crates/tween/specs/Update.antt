@@ -4,7 +4,7 @@ use lib.Ieee.{Float, lt, eq}
 use Rattle.math.specs.Rounded.{zeroF, topF, _⊕_, _⊖_, _⊗_}
 use Rattle.math.specs.Range.{maxZeroOf}
 use Rattle.refusal.specs.declared.Refusal.the-variants.{RecordBreaksLimit, StepTooLong, StepLost, TooManyFolds}
-use Rattle.refusal.specs.Refusing.{unless}
+use Rattle.refusal.specs.Refusing.{unless, when}
 use Rattle.tween.specs.declared.record.Tween.{Tween}
 use Rattle.tween.specs.declared.record.TweenSnapshot.{TweenSnapshot}
 use Rattle.tween.specs.declared.record.TweenState.{TweenState}
@@ -18,11 +18,25 @@ use Rattle.folds.specs.Folds.{due, foldsOf}
 
 -- the folding begins at an elapsed e
 abbrev pub beginAt : Tween → Float → Folding
-beginAt t e = record { elapsed = e; «loop_count» = t .«loop_count»; «ping_pong_reverse» = t .«ping_pong_reverse»; completed = false; folds = 0 }
+beginAt t e =
+    record {
+      elapsed = e;
+      «loop_count» = t .«loop_count»;
+      «ping_pong_reverse» = t .«ping_pong_reverse»;
+      completed = false;
+      folds = 0;
+    }
 
 -- "completes with 0 folds and elapsed 0"
 abbrev pub atOnce : Tween → Folding
-atOnce t = record { elapsed = zeroF; «loop_count» = t .«loop_count»; «ping_pong_reverse» = t .«ping_pong_reverse»; completed = true; folds = 0 }
+atOnce t =
+    record {
+      elapsed = zeroF;
+      «loop_count» = t .«loop_count»;
+      «ping_pong_reverse» = t .«ping_pong_reverse»;
+      completed = true;
+      folds = 0;
+    }
 
 -- what moves, after the folds, with delay_elapsed w
 abbrev pub afterFolds : Float → Folding → TweenSnapshot
@@ -41,7 +55,9 @@ ran t w p = Ran (put (afterFolds w p) t) (p .folds) (not (p .completed))
 
 -- 7: "after 4,096 folds a tween's elapsed would still be at least its duration and the tween not completed"
 unfoldable pub folded : Tween → Float → Folding → Updated
-folded t w p = cond (due (t .duration) p) (Refused t TooManyFolds) (ran t w p)
+folded t w p =
+    when (due (t .duration) p) (Refused t TooManyFolds)
+    (ran t w p)
 
 -- t runs on with delay_elapsed w and elapsed e: "Duration 0 then completes [..]. Otherwise, while elapsed is at least duration, one fold"
 unfoldable pub advanced : Tween → Float → Float → Updated
@@ -70,13 +86,15 @@ lostOf Completed t x sum = false
 -- Idle, with a delay sum w: 6, or "once that is at least the delay, Running, and the excess times scale is added to elapsed"
 unfoldable pub waitOf : Tween → Float → Float → Updated
 waitOf t x w =
-    cond (lostOf Idle t x w) (Refused t StepLost)
+    when (lostOf Idle t x w) (Refused t StepLost)
     (cond (lt w (t .delay)) (Ran (put (waiting t w) t) 0 true)
     (advanced t w (t .elapsed ⊕ (w ⊖ t .delay) ⊗ t .«time_scale»)))
 
 -- Running, with a sum e: 6, or t runs on
 unfoldable pub runOf : Tween → Float → Float → Updated
-runOf t x e = cond (lostOf Running t x e) (Refused t StepLost) (advanced t (t .«delay_elapsed») e)
+runOf t x e =
+    when (lostOf Running t x e) (Refused t StepLost)
+    (advanced t (t .«delay_elapsed») e)
 
 -- "Completed and Paused change nothing. Idle adds the step to delay_elapsed [..]. Running adds step times scale"
 unfoldable pub byState : TweenState → Tween → Float → Updated
@@ -89,5 +107,5 @@ byState Running t x = runOf t x (t .elapsed ⊕ x ⊗ t .«time_scale»)
 unfoldable pub updateOf : Tween → Float → Updated
 updateOf t x =
     unless (withinOf t) (Refused t RecordBreaksLimit)
-    (cond (lt topF x) (Refused t StepTooLong)
+    (when (lt topF x) (Refused t StepTooLong)
     (byState (t .state) t (maxZeroOf x)))

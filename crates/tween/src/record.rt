@@ -64,12 +64,12 @@ impl Tween {
 }
 
 // The tween with other ends, moved to a snapshot.
-pub fn with_ends(t: Tween, start: f32, end: f32, now: TweenSnapshot) -> Tween
-    ensures { λ r. ⌜ r ≡ withEnds start end now t ⌝ }
+pub fn with_ends(t: Tween, start: f32, end: f32, snapshot: TweenSnapshot) -> Tween
+    ensures { λ r. ⌜ r ≡ withEnds start end snapshot t ⌝ }
 {
     let easing = t.easing;
     let looping = t.looping;
-    let state = now.state;
+    let state = snapshot.state;
     Tween {
         start,
         end,
@@ -78,10 +78,10 @@ pub fn with_ends(t: Tween, start: f32, end: f32, now: TweenSnapshot) -> Tween
         delay: t.delay,
         time_scale: t.time_scale,
         looping,
-        elapsed: now.elapsed,
-        delay_elapsed: now.delay_elapsed,
+        elapsed: snapshot.elapsed,
+        delay_elapsed: snapshot.delay_elapsed,
         state,
-        loop_count: now.loop_count,
-        ping_pong_reverse: now.ping_pong_reverse,
+        loop_count: snapshot.loop_count,
+        ping_pong_reverse: snapshot.ping_pong_reverse,
     }
 }

@@ -21,7 +21,7 @@ use refusal::Refusal;
 // What the step changes, so that a caller can set it in place: delay_elapsed, and what folding
 // changes. Unsure says nothing: `step_on` answers every step.
 pub enum Glided {
-    To { waited: f32, now: Folding },
+    To { waited: f32, folding: Folding },
     Unsure,
 }
 
@@ -41,7 +41,10 @@ fn slide(t: Tween, waited: f32, e: f32) -> Glided
         folds: 0,
     };
     if !is_due(t.duration, first) {
-        return Glided::To { waited, now: first };
+        return Glided::To {
+            waited,
+            folding: first,
+        };
     }
     let looping = t.looping;
     let once = fold_once(looping, t.duration, first);
@@ -54,7 +57,10 @@ fn slide(t: Tween, waited: f32, e: f32) -> Glided
     if once.loop_count > 16777216 {
         return Glided::Unsure;
     }
-    Glided::To { waited, now: once }
+    Glided::To {
+        waited,
+        folding: once,
+    }
 }
 
 // An inner step, for runs of many.
@@ -87,15 +93,15 @@ impl Tween {
             };
         }
         match glide(self, step) {
-            Glided::To { waited, now } => {
+            Glided::To { waited, folding } => {
                 let mut t = self;
-                t.elapsed = now.elapsed;
+                t.elapsed = folding.elapsed;
                 t.delay_elapsed = waited;
-                t.loop_count = now.loop_count;
-                t.ping_pong_reverse = now.ping_pong_reverse;
+                t.loop_count = folding.loop_count;
+                t.ping_pong_reverse = folding.ping_pong_reverse;
                 Updated::Ran {
                     tween: t,
-                    folds: now.folds,
+                    folds: folding.folds,
                     running: true,
                 }
             }

@@ -17,7 +17,7 @@ use Rattle.math.proofs.Choice.{and-both}
 use Rattle.math.proofs.Order.{lt-le, le-lt-chain, lt-le-chain}
 use Rattle.math.proofs.Upward.{Up}
 use Rattle.bezier.specs.declared.types.Found.{Found}
-use Rattle.bezier.specs.Search.{foundAt}
+use Rattle.bezier.specs.Bezier.{plainOf}
 use Rattle.easing.specs.Apply.{fitsRecordOf}
 use Rattle.frames.specs.declared.frame.Keyframe.{Keyframe}
 use Rattle.frames.specs.Limits.{isTime, frameWithin, framesAfter, framesWithin, beforeAll, noFrame}
@@ -163,12 +163,12 @@ module _ (w : LaxTrack) (secs t : Float) (low : ℕ) (x : Ended w secs t low) wh
   picked : pickOf (getD (framesRead w) 0 noFrame) (getD (framesRead w) (w .count - 1) noFrame) (getD (framesRead w) low noFrame) (getD (framesRead w) (low + 1) noFrame) t ≡ sampleOf (take (w .count) (framesRead w)) secs
   picked = scan-picked (framesRead w) (w .count) (x .some) long all-fine secs t cut-read low (x .seen .scan)
 
-  pub quick-first : le t (getD (w .frames) 0 noWords .time) ≡ true → (f : Found) → f ≡ foundAt true (getD (w .frames) 0 noWords .value) → Value f ≡ quickOf w secs
+  pub quick-first : le t (getD (w .frames) 0 noWords .time) ≡ true → (f : Found) → f ≡ plainOf (getD (w .frames) 0 noWords .value) → Value f ≡ quickOf w secs
   unfolding frameFrom
   quick-first a f e = sampled f (e ∙ rw (frame 0 (x .some), a) at picked)
 
   module _ (a : le t (getD (w .frames) 0 noWords .time) ≡ false) where
-    pub quick-last : le (getD (w .frames) (w .count - 1) noWords .time) t ≡ true → (f : Found) → f ≡ foundAt true (getD (w .frames) (w .count - 1) noWords .value) → Value f ≡ quickOf w secs
+    pub quick-last : le (getD (w .frames) (w .count - 1) noWords .time) t ≡ true → (f : Found) → f ≡ plainOf (getD (w .frames) (w .count - 1) noWords .value) → Value f ≡ quickOf w secs
     unfolding frameFrom
     quick-last z f e = sampled f (e ∙ rw (frame 0 (x .some), a, frame (w .count - 1) (omega (arith, x .some)), z) at picked)
 

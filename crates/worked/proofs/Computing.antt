@@ -1,6 +1,6 @@
 -- The definitions that the examples compute with: to unfold `easings`, `tweens` or `tracks` is to unfold those of that layer and below.
 use lib.Ieee.{sub, mul, div, le, isNan, ofInt, ofBits, toUnsigned}
-use Rattle.bezier.specs.Bezier.{foundOf, cubicBezier}
+use Rattle.bezier.specs.Bezier.{solutionOf, cubicBezier}
 use Rattle.bezier.specs.Curve.{sampleCubicOf}
 use Rattle.bezier.specs.Search.{turnOf, newtonOf}
 use Rattle.easing.specs.Kinds.{suppliedOf}
@@ -20,7 +20,7 @@ use Rattle.keyframe.specs.Sampling.{valueAtOf}
 use Rattle.keyframe.specs.Stepping.{finalOf, advanceOf, updateOf as trackUpdate}
 
 unfoldable pub easings : Unit {0}
-unfolding cubicBezier foundOf newtonOf turnOf sampleCubicOf suppliedOf paramsOf paramsWithin searchOf applyOf fitsRecordOf sub mul div le isNan ofInt ofBits toUnsigned
+unfolding cubicBezier solutionOf newtonOf turnOf sampleCubicOf suppliedOf paramsOf paramsWithin searchOf applyOf fitsRecordOf sub mul div le isNan ofInt ofBits toUnsigned
 easings = tt
 
 unfoldable pub tweens : Unit {0}

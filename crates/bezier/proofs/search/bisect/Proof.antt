@@ -4,7 +4,7 @@ use mathlib.Core.Path.{_≡_, sym, ap, _∙_}
 use mathlib.Core.Bool.{true, false}
 use native.Mathlib.Omega.{arith}
 use borrow.Author.Needs.{needs}
-use Rattle.bezier.specs.Search.{foundAt, after, nearOf, bisectOf, bisectFrom}
+use Rattle.bezier.specs.Search.{solvedAt, after, nearOf, bisectOf, bisectFrom}
 use Rattle.bezier.proofs.Steps.{counts, after-none, after-both, bisect-near, bisect-next, bisect-spent}
 use Rattle.bezier.proofs.search.bisect.Statement.{statement}
 use Rattle.bezier.proofs.search.bisect.Tie as tie
@@ -17,7 +17,7 @@ abbrev μ-loop : tie.MeasureT-loop
 
 near : tie.Need-returns Inv-loop μ-loop
 near c =
-    counts (after (c .before .before .before .before .before .args .steps) (c .before .before .before .before .before .args .steps) (after (c .before .before .before .before .loop .k) 0 (after 1 0 (foundAt true (c .before .before .before .before .loop .s .u))))) _ _
+    counts (after (c .before .before .before .before .before .args .steps) (c .before .before .before .before .before .args .steps) (after (c .before .before .before .before .loop .k) 0 (after 1 0 (solvedAt true (c .before .before .before .before .loop .s .u))))) _ _
     (ap (after (c .before .before .before .before .before .args .steps) _)
     (ap (after (c .before .before .before .before .loop .k) 0) (sym (bisect-near _ _ _ 10 _ _ (omega arith) (rw (← c .before .before .sample-cubic .ensures, ← c .before .size .ensures) (c .if1 .taken))))
     ∙ c .before .before .before .before .loop .inv .1))
@@ -34,7 +34,7 @@ next c = (
 
 spent : tie.Need-returns-2 Inv-loop μ-loop
 spent c =
-    counts (after (c .before .before .args .steps) (c .before .before .args .steps) (after (c .before .loop .k) 0 (foundAt false (c .before .loop .s .u)))) _ _
+    counts (after (c .before .before .args .steps) (c .before .before .args .steps) (after (c .before .loop .k) 0 (solvedAt false (c .before .loop .s .u)))) _ _
     (ap (after (c .before .before .args .steps) _) (ap (after (c .before .loop .k) 0) (sym (bisect-spent _ _ _ 10 _ _ _ (omega arith))) ∙ c .before .loop .inv .1))
     (omega arith)
     (omega arith)

@@ -5,7 +5,7 @@ use mathlib.Core.Bool.{true}
 use mathlib.Core.Logic.{⊎-elim}
 use native.Mathlib.Omega.{arith}
 use borrow.Author.Needs.{needs}
-use Rattle.bezier.specs.Search.{foundAt, after, turnOf, newtonOf, solveOf}
+use Rattle.bezier.specs.Search.{solvedAt, after, turnOf, newtonOf, solveOf}
 use Rattle.bezier.proofs.Steps.{counts, after-none, after-both, newton-near, newton-flat, newton-next, newton-spent}
 use Rattle.bezier.proofs.search.solve.Statement.{statement}
 use Rattle.bezier.proofs.search.solve.Tie as tie
@@ -18,7 +18,7 @@ abbrev μ-loop : tie.MeasureT-loop
 
 near : tie.Need-returns Inv-loop μ-loop
 near c =
-    counts (after (c .before .before .before .before .loop .made) _ (after 1 0 (foundAt true (c .before .before .before .before .loop .u)))) _ _
+    counts (after (c .before .before .before .before .loop .made) _ (after 1 0 (solvedAt true (c .before .before .before .before .loop .u)))) _ _
     (ap (after (c .before .before .before .before .loop .made) _) (sym (newton-near _ _ _ 6 _ _ (omega arith) (sym (c .before .before .newton-turn .ensures) ∙ c .enum-told .given .1)))
     ∙ c .before .before .before .before .loop .inv .1)
     (omega arith)

@@ -12,8 +12,7 @@ use lib.ListN.{length, take, drop, getD, length-set}
 use lib.Seq.{take-length}
 use lib.Ieee.{Float, nan}
 use Rattle.math.proofs.Tallies.{byte-below}
-use Rattle.frames.specs.Counting.{countOf}
-use Rattle.frames.specs.Sampling.{sampleOf, filledOf, unsettledOf}
+use Rattle.frames.specs.Sampling.{sampleOf, filledOf, countOf, unsettledOf}
 use Rattle.frames.specs.declared.frame.Keyframe.{Keyframe}
 use Rattle.frames.proofs.Picks.{picked-by}
 use Rattle.frames.proofs.Walks.{array-long}

@@ -6,7 +6,7 @@ use lib.Ieee.{lt}
 use native.Mathlib.Omega.{arith}
 use borrow.Author.Needs.{needs}
 use Rattle.frames.specs.declared.frame.Keyframe.{Keyframe}
-use Rattle.frames.specs.Pushing.{earlierOf}
+use Rattle.frames.specs.Inner.{earlierOf}
 use Rattle.frames.proofs.Walks.{array-long, lead-yes, lead-no, lead-end}
 use Rattle.frames.proofs.pushing.earlier.Statement.{statement}
 use Rattle.frames.proofs.pushing.earlier.Tie as tie

@@ -9,7 +9,8 @@ use denote.Ref.{now}
 use lib.ListN.{take, drop}
 use lib.Ieee.{Float, le}
 use Rattle.math.proofs.Tallies.{byte-below}
-use Rattle.frames.specs.Counting.{countOf, counted}
+use Rattle.frames.specs.Sampling.{countOf}
+use Rattle.frames.specs.Inner.{counted}
 use Rattle.frames.proofs.Counts.{byte-fits, count-next, count-past, not-nan}
 use Rattle.frames.proofs.search.interval.Statement.{statement}
 use Rattle.frames.proofs.search.interval.Tie as tie

@@ -6,7 +6,7 @@ use lib.Ieee.{Float}
 use Rattle.math.specs.Range.{Within}
 use Rattle.math.proofs.Ranges.{clamped}
 use Rattle.bezier.specs.declared.types.Found.{Found}
-use Rattle.bezier.specs.Search.{foundAt}
+use Rattle.bezier.specs.Bezier.{plainOf}
 use Rattle.refusal.specs.declared.Refusal.the-variants.{EasingNotSupplied}
 use Rattle.easing.specs.declared.kinds.Easing.{Easing}
 use Rattle.easing.specs.declared.params.Params.{Params}
@@ -39,7 +39,7 @@ module _ (b : tie.After-clamp01) where
 
   -- at a kind x, whose curve w the call's answer v is
   module _ (x : Easing) (e : self ≡ x) where
-    plainly : (v w : Float) (r : Eased) → v ≡ w → r ≡ Value (foundAt true v) → paramsOf x ≡ noParams → easedAt (curveOf x) (searchOf x) true u ≡ Value (foundAt true w) → r ≡ applyOf self t
+    plainly : (v w : Float) (r : Eased) → v ≡ w → r ≡ Value (plainOf v) → paramsOf x ≡ noParams → easedAt (curveOf x) (searchOf x) true u ≡ Value (plainOf w) → r ≡ applyOf self t
     plainly = bare self t _ (b .before .before .is-nan .ensures) (b .before .if1 .left) u (b .clamp01 .ensures) x e
 
     limited : (f g : Found) (p : Params) (fine : Bool) (r : Eased) → f ≡ g → p ≡ paramsOf x → fine ≡ withinOf p → r ≡ limitedOf fine f → ((fine : Bool) → easedAt (curveOf x) (searchOf x) fine u ≡ limitedOf fine g) → r ≡ applyOf self t
@@ -164,7 +164,7 @@ apply-spec =
     (λ c. plainly (c .before .before .before .before) _ (c .before .before .enum-told21 .given .1) _ _ _ (c .before .ease-out-bounce .ensures) (c .plain21 .ensures) refl refl)
     (λ c. plainly (c .before .before .before .before) _ (c .before .before .enum-told22 .given .1) _ _ _ (c .before .ease-in-out-bounce .ensures) (c .plain22 .ensures) refl refl)
     (λ c. limited (c .before .before .before .before .before .before .before) _ (c .before .before .before .before .before .self .given .1) _ _ _ _ _ (c .before .cubic-bezier .ensures) (c .before .before .before .params-of .ensures) (c .before .before .within .ensures) (c .limited .ensures) (λ fine. refl))
-    (λ c. limited (c .before .before .before .before .before .before .before .before) _ (c .before .before .before .before .before .before .self2 .given .1) _ _ _ _ _ (c .before .plain23 .ensures ∙ ap (foundAt true) (c .before .before .steps .ensures)) (c .before .before .before .before .params-of2 .ensures) (c .before .before .before .within2 .ensures) (c .limited2 .ensures) (λ fine. refl))
-    (λ c. limited (c .before .before .before .before .before .before .before .before) _ (c .before .before .before .before .before .before .self3 .given .1) _ _ _ _ _ (c .before .plain24 .ensures ∙ ap (foundAt true) (c .before .before .slow-mo .ensures)) (c .before .before .before .before .params-of3 .ensures) (c .before .before .before .within3 .ensures) (c .limited3 .ensures) (λ fine. refl))
-    (λ c. limited (c .before .before .before .before .before .before .before .before) _ (c .before .before .before .before .before .before .self4 .given .1) _ _ _ _ _ (c .before .plain25 .ensures ∙ ap (foundAt true) (c .before .before .custom-bounce .ensures)) (c .before .before .before .before .params-of4 .ensures) (c .before .before .before .within4 .ensures) (c .limited4 .ensures) (λ fine. refl))
+    (λ c. limited (c .before .before .before .before .before .before .before .before) _ (c .before .before .before .before .before .before .self2 .given .1) _ _ _ _ _ (c .before .plain23 .ensures ∙ ap plainOf (c .before .before .steps .ensures)) (c .before .before .before .before .params-of2 .ensures) (c .before .before .before .within2 .ensures) (c .limited2 .ensures) (λ fine. refl))
+    (λ c. limited (c .before .before .before .before .before .before .before .before) _ (c .before .before .before .before .before .before .self3 .given .1) _ _ _ _ _ (c .before .plain24 .ensures ∙ ap plainOf (c .before .before .slow-mo .ensures)) (c .before .before .before .before .params-of3 .ensures) (c .before .before .before .within3 .ensures) (c .limited3 .ensures) (λ fine. refl))
+    (λ c. limited (c .before .before .before .before .before .before .before .before) _ (c .before .before .before .before .before .before .self4 .given .1) _ _ _ _ _ (c .before .plain25 .ensures ∙ ap plainOf (c .before .before .custom-bounce .ensures)) (c .before .before .before .before .params-of4 .ensures) (c .before .before .before .within4 .ensures) (c .limited4 .ensures) (λ fine. refl))
     (λ c. none (c .before) (told (c .before .before .before .before .args .self) .supplied ∙ ap not (by-tag (among twelve) twelve (c .before .before .before .before .args .self) tt (c .match .keys27)))))
