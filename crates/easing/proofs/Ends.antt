@@ -2,7 +2,8 @@
 use mathlib.Core.Path.{refl}
 use lib.Dec.{T}
 use lib.Ieee.{add, sub, mul, div, neg, lt, le, eq, isNan, ofInt, ofBits, toBits}
-use Rattle.math.proofs.Lists.{every, every-member}
+use Rattle.math.specs.Lists.{every}
+use Rattle.math.proofs.Lists.{every-member}
 use Rattle.curves.specs.Root.{rootFrom, sqrtOf}
 use Rattle.curves.specs.Circ.{inCirc, outCirc, inOutCirc}
 use Rattle.bezier.specs.Bezier.{solutionOf, cubicBezier}

@@ -9,7 +9,7 @@ use lib.Ieee.Fits.{and-l, and-r}
 use lib.Ieee.Bits.{is-true}
 use types.Run.{OneOf}
 use denote.Enum.Declared.{tagOf}
-use Rattle.math.proofs.Lists.{every}
+use Rattle.math.specs.Lists.{every}
 use Rattle.easing.specs.Kinds.{numberOf, suppliedOf}
 use Rattle.easing.specs.Params.{noParams, paramsOf}
 use Rattle.easing.proofs.kinds.Easing.{the-type}

@@ -11,13 +11,14 @@ use lib.Ieee.Fits.{and-l, and-r}
 use lib.Ieee.Bits.{is-true}
 use lib.ListN.{length, take, drop, length-append, length-drop}
 use lib.Seq.{take-append-seam, drop-drop, drop-append-add}
+use Rattle.math.specs.Lists.{every}
 use Rattle.math.proofs.Choice.{by-test, and-both}
 use Rattle.refusal.specs.declared.Refusal.the-variants.{NoRoom}
 use Rattle.event_log.specs.declared.event.Event.{Event}
 use Rattle.event_log.specs.declared.writer.Logged.{Logged}
 use Rattle.event_log.specs.declared.writer.Logged.the-variants.{Written, Refused}
 use Rattle.event_log.specs.Format.{mark, version, head, recordOf, recordsFrom, logOf, startsWith}
-use Rattle.event_log.specs.Writing.{Writing, refused, wrote, headIn, isLong, isBackward, isWhole, numberBehind, recordIn, every, mayBeLogged, recordsIn, Keeps}
+use Rattle.event_log.specs.Writing.{Writing, refused, wrote, headIn, isLong, isBackward, isWhole, numberBehind, recordIn, mayBeLogged, recordsIn, Keeps}
 use Rattle.event_log.specs.Promises.{LogMore, WritesLog, HeadKeeps, RecordKeeps, RefusedStays}
 use Rattle.event_log.proofs.Logs.{length-log, log-number, records-more}
 use Rattle.event_log.proofs.Refusals.{a-head, a-record}

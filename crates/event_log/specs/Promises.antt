@@ -5,6 +5,7 @@ use mathlib.Core.Bool.{true}
 use mathlib.Core.List.{List, [], _∷_, _++_}
 use lib.Dec.{T}
 use lib.ListN.{length, drop}
+use Rattle.math.specs.Lists.{every}
 use Rattle.math.specs.Rounded.{f32}
 use Rattle.refusal.specs.declared.Refusal.{Refusal}
 use Rattle.refusal.specs.declared.Refusal.the-variants.{NoRoom}
@@ -12,7 +13,7 @@ use Rattle.event_log.specs.declared.event.Event.{Event}
 use Rattle.event_log.specs.declared.event.Event.the-variants.{Step, Pause, Resume, Reset}
 use Rattle.event_log.specs.declared.writer.Logged.the-variants.{Refused}
 use Rattle.event_log.specs.Format.{head, next, recordOf, logOf}
-use Rattle.event_log.specs.Writing.{refused, wrote, headIn, numberAt, numberBehind, recordIn, every, mayBeLogged, recordsIn, Keeps}
+use Rattle.event_log.specs.Writing.{refused, wrote, headIn, numberAt, numberBehind, recordIn, mayBeLogged, recordsIn, Keeps}
 
 -- "A log begins with the three bytes `PEL` and a 16-bit version, now 1; then 8-byte records [..]; numbers low byte first": a step of 0.02 s, a pause, a resume, a step of -0 and a reset, byte by byte
 abbrev pub SmallLog : Type 0

@@ -1,6 +1,6 @@
 -- Request 2, "Write the event log": the two calls, and their refusals in their order.
 use Prim.Native.Nat.{ℕ, _+_, _-_, _*_, _%_, _<_, _≤_}
-use mathlib.Core.Bool.{Bool, true, not, _&&_, _||_, cond}
+use mathlib.Core.Bool.{Bool, not, _&&_, _||_, cond}
 use mathlib.Core.List.{List, [], _∷_, _++_}
 use mathlib.Core.Logic.{_⊎_}
 use mathlib.Core.Path.{_≡_}
@@ -69,11 +69,6 @@ recordIn buffer written e =
     (unless (isWhole written) (refused buffer WrongLength)
     (unless (leb (written + 8) (length buffer)) (refused buffer NoRoom)
     (wrote buffer written (recordOf (numberBehind log) e))))))))
-
--- a test passes for each of a list
-abbrev pub every : {A : Type 0} → (A → Bool) → List A → Bool
-every test [] = true
-every test (x ∷ xs) = test x && every test xs
 
 -- neither 5 nor 14
 abbrev pub mayBeLogged : Event → Bool

@@ -9,11 +9,12 @@ use borrow.Author.Tests.{ltb-true, ltb-false, eqb-true, eqb-false, lt-ltb, le-lt
 use lib.Dec.{T, ltb, eqb}
 use lib.ListN.{length, getD, length-append, List·getD-append}
 use lib.Seq.{getD-append-add}
+use Rattle.math.specs.Lists.{every}
 use Rattle.steps.specs.declared.run.Outcome.{Outcome}
 use Rattle.steps.specs.declared.run.Outcome.the-variants as outcome
 use Rattle.event_log.specs.declared.event.Event.{Event}
 use Rattle.event_log.specs.Format.{recordsFrom}
-use Rattle.event_log.specs.Writing.{every, mayBeLogged}
+use Rattle.event_log.specs.Writing.{mayBeLogged}
 use Rattle.reader.specs.declared.gaps.Last.{Last}
 use Rattle.reader.specs.declared.gaps.Last.the-variants.{Unread, Number}
 use Rattle.reader.specs.declared.hear.Replay.{Replay}

@@ -11,12 +11,13 @@ use lib.Ieee.Fits.{and-l, and-r}
 use lib.Ieee.Bits.{is-true}
 use lib.ListN.{length, getD, take, replicate, length-take, length-replicate}
 use lib.Seq.{getD-take}
+use Rattle.math.specs.Lists.{every}
 use Rattle.math.proofs.Choice.{and-both}
 use Rattle.steps.specs.declared.run.Outcome.{Outcome}
 use Rattle.steps.specs.declared.run.Outcome.the-variants as outcome
 use Rattle.event_log.specs.declared.event.Event.{Event}
 use Rattle.event_log.specs.Format.{next, recordOf, recordsFrom}
-use Rattle.event_log.specs.Writing.{isLong, isBackward, every, mayBeLogged}
+use Rattle.event_log.specs.Writing.{isLong, isBackward, mayBeLogged}
 use Rattle.reader.specs.declared.gaps.Last.{Last}
 use Rattle.reader.specs.declared.gaps.Last.the-variants.{Number}
 use Rattle.reader.specs.declared.hear.Replay.{Replay}

@@ -5,6 +5,7 @@ use mathlib.Core.Bool.{Bool, true, false, false≢true}
 use mathlib.Core.List.{List, [], _∷_, _++_}
 use native.Mathlib.Nat.{mod-lt, zero-add}
 use native.Mathlib.Omega.{arith}
+use Rattle.math.specs.Lists.{every}
 use Rattle.math.proofs.Choice.{by-test}
 use lib.Dec.{T}
 use lib.ListN.{length, take, drop, replicate}
@@ -22,7 +23,7 @@ use Rattle.event_log.specs.declared.event.Event.{Event}
 use Rattle.event_log.specs.declared.event.Event.the-variants.{Step, Pause, Resume, Reset}
 use Rattle.event_log.specs.Format.{next, recordOf, recordsFrom, logOf}
 use Rattle.event_log.specs.declared.writer.Logged.the-variants.{Written}
-use Rattle.event_log.specs.Writing.{wrote, headIn, isLong, isBackward, every, mayBeLogged, recordsIn}
+use Rattle.event_log.specs.Writing.{wrote, headIn, isLong, isBackward, mayBeLogged, recordsIn}
 use Rattle.event_log.proofs.Logs.{length-records, length-log}
 use Rattle.event_log.proofs.Written.{writes-log}
 use Rattle.reader.specs.declared.gaps.Last.the-variants.{Number}

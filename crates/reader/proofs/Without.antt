@@ -9,6 +9,7 @@ use lib.Dec.{T, leb, eqb}
 use lib.Ieee.Fits.{and-i, and-l, and-r}
 use lib.ListN.{length, take, drop, take-append-drop}
 use lib.Seq.{length-take-le, take-at, drop-at, take-append-add, drop-append-add}
+use Rattle.math.specs.Lists.{every}
 use Rattle.math.proofs.Choice.{by-test}
 use Rattle.refusal.specs.declared.Refusal.{Refusal}
 use Rattle.refusal.specs.declared.Refusal.the-variants.{RecordBreaksLimit, OutputTooShort, WrongLength}
@@ -16,7 +17,7 @@ use Rattle.tween.specs.declared.record.Tween.{Tween}
 use Rattle.tween.specs.Limits.{withinOf}
 use Rattle.event_log.specs.declared.event.Event.{Event}
 use Rattle.event_log.specs.Format.{head, recordsFrom, logOf}
-use Rattle.event_log.specs.Writing.{every, mayBeLogged}
+use Rattle.event_log.specs.Writing.{mayBeLogged}
 use Rattle.event_log.proofs.Logs.{length-records, records-append}
 use Rattle.reader.specs.Records.{split, recordsOf}
 use Rattle.reader.specs.Reading.{Reading, stopped, readOnOf, beginOf, replayOf}

@@ -6,6 +6,7 @@ use mathlib.Core.List.{List, [], _∷_, _++_, map}
 use lib.Dec.{T, ltb, eqb}
 use lib.ListN.{length, getD, take, drop, replicate}
 use lib.Ieee.{binary32, fits}
+use Rattle.math.specs.Lists.{every}
 use Rattle.math.specs.Rounded.{wholeF}
 use Rattle.tween.specs.declared.record.Tween.{Tween}
 use Rattle.tween.specs.declared.answers.Changed.the-variants as changed
@@ -17,7 +18,7 @@ use Rattle.event_log.specs.declared.event.Event.{Event}
 use Rattle.event_log.specs.declared.event.Event.the-variants.{Step, Pause, Resume}
 use Rattle.event_log.specs.Format.{stepOf, logOf}
 use Rattle.event_log.specs.declared.writer.Logged.the-variants.{Written}
-use Rattle.event_log.specs.Writing.{headIn, isBackward, every, mayBeLogged, recordsIn}
+use Rattle.event_log.specs.Writing.{headIn, isBackward, mayBeLogged, recordsIn}
 use Rattle.reader.specs.declared.gaps.Last.the-variants.{Number}
 use Rattle.reader.specs.declared.hear.Replay.{Replay}
 use Rattle.reader.specs.declared.hear.Played.{Played}
