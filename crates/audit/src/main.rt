@@ -31,7 +31,7 @@ fn is_called() -> bool {
         b"audit",
         b"usage: audit RAMP LOG\n",
         b"\n\
-        Replays a log into a ramp, and says which passes were made and which records are missing.\n\
+        Replays a log into a ramp, and says what its numbers show: which passes were made, what is missing.\n\
         \n\
         RAMP  a ramp as text: a name and its value to a line\n\
         LOG   an event log: a file, or a pipe as /dev/stdin\n\
