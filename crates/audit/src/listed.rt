@@ -18,7 +18,7 @@ pub enum Line {
 fn gap_line(one: Seen) {
     say(1, b"gap ");
     say_number(1, one.gap as u64);
-    say(1, b" missing before record ");
+    say(1, b" missing by the numbers before record ");
     say_number(1, one.place);
     say(1, b": number ");
     say_number(1, one.number as u64);

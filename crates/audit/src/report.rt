@@ -54,7 +54,9 @@ fn lists_lines(lists: Lists, counts: Counts, reached: Replay) {
     let gaps = lists.gaps;
     list_lines(Line::Gap, gaps, counts.gaps);
     number_line(b"gaps ", counts.gaps);
-    number_line(b"missing ", reached.missing);
+    say(1, b"missing ");
+    say_number(1, reached.missing);
+    line(b" by the numbers");
     let repeats = lists.repeats;
     list_lines(Line::Repeat, repeats, counts.repeats);
     number_line(b"repeats ", counts.repeats);

@@ -44,7 +44,7 @@ impl Survey {
         [
             self.records(),
             listed(&gaps, gap_line, "gap and more such records"),
-            vec![format!("gaps {}", gaps.len()), format!("missing {}", self.reached.missing)],
+            vec![format!("gaps {}", gaps.len()), format!("missing {} by the numbers", self.reached.missing)],
             listed(&repeats, repeat_line, "repeat and more such records"),
             vec![format!("repeats {}", repeats.len()), format!("folds {}", self.reached.folds)],
             self.most(),
@@ -143,7 +143,7 @@ fn listed(all: &[&Seen], line: impl Fn(&Seen) -> String, more: &str) -> Vec<Stri
 
 fn gap_line(one: &Seen) -> String {
     let Seen { gap, place, number, last, .. } = one;
-    format!("gap {gap} missing before record {place}: number {number} follows {last}")
+    format!("gap {gap} missing by the numbers before record {place}: number {number} follows {last}")
 }
 
 fn repeat_line(one: &Seen) -> String {
