@@ -29,27 +29,55 @@ extern "C" {
 
 /* The numbers of the refusals. */
 enum {
-    LAX_OK = 0,
-    LAX_PROGRESS_IS_NAN = 1,     /* a progress argument is NaN */
-    LAX_EASING_NOT_SUPPLIED = 2, /* an easing argument is one of the twelve named kinds without a curve */
-    LAX_EASING_PARAMETER = 3,    /* a parameter is not finite or beyond its limit */
-    LAX_RECORD_BREAKS_LIMIT = 4, /* the tween or the track that came breaks a limit */
-    LAX_STEP_TOO_LONG = 5,       /* a step above 16,777,216 s, infinity too */
-    LAX_STEP_LOST = 6,           /* a step above 0 that the f32 sum does not show */
-    LAX_TOO_MANY_FOLDS = 7,      /* 4,096 folds do not suffice */
-    LAX_ELAPSED_TOO_LONG = 8,    /* a track's elapsed would pass 16,777,216 s */
-    LAX_TRACK_FULL = 9,          /* a push into a full track at a time that no frame has */
-    LAX_NO_FRAMES = 10,          /* a track without frames is sampled */
-    LAX_TRACK_LIMIT = 11,        /* a push or a change of mode breaks a limit */
-    LAX_OUTPUT_TOO_SHORT = 12,   /* a lent output is shorter than the list that is read */
-    LAX_NO_ROOM = 13,            /* a buffer has no room for a log's head or for one more record */
-    LAX_STEP_BELOW_ZERO = 14,    /* a step to be logged is NaN or below 0 */
-    LAX_WRONG_MARK = 15,         /* a log's mark is wrong or cut short */
-    LAX_UNKNOWN_VERSION = 16,    /* a log's version is unknown or cut short */
-    LAX_WRONG_LENGTH = 17,       /* a log is longer than its buffer, or its records are not whole */
-    LAX_WRONG_RECORD = 18,       /* a record that is read has a wrong kind, zero byte or step */
-    LAX_UNKNOWN_WORD = 100       /* a word is no kind, no mode or no state */
+    LAX_OK = 0,                  /* the call was accepted */
+    LAX_PROGRESS_IS_NAN = 1,     /* the progress is NaN */
+    LAX_EASING_NOT_SUPPLIED = 2, /* the easing is one of the twelve without a curve */
+    LAX_EASING_PARAMETER = 3,    /* a parameter of the easing is not finite or beyond its limit */
+    LAX_RECORD_BREAKS_LIMIT = 4, /* the tween or the track breaks a limit */
+    LAX_STEP_TOO_LONG = 5,       /* the step is above 16,777,216 s */
+    LAX_STEP_LOST = 6,           /* the step is above 0, and the f32 sum does not show it */
+    LAX_TOO_MANY_FOLDS = 7,      /* the step needs more than 4,096 folds */
+    LAX_ELAPSED_TOO_LONG = 8,    /* the elapsed of a track without an end would pass 16,777,216 s */
+    LAX_TRACK_FULL = 9,          /* the track has 64 frames, and none of them at this time */
+    LAX_NO_FRAMES = 10,          /* the track has no frames */
+    LAX_TRACK_LIMIT = 11,        /* a time, a value, the passes or the total would be beyond its limit */
+    LAX_OUTPUT_TOO_SHORT = 12,   /* a lent output is shorter than what is to fill it */
+    LAX_NO_ROOM = 13,            /* the buffer has no room for a log's head, 5 bytes, or for a record, 8 bytes */
+    LAX_STEP_BELOW_ZERO = 14,    /* the step to be logged is NaN or below 0 */
+    LAX_WRONG_MARK = 15,         /* the log does not begin with PEL */
+    LAX_UNKNOWN_VERSION = 16,    /* the log's version is not 1, or is cut short */
+    LAX_WRONG_LENGTH = 17,       /* the log is longer than its buffer, or ends within a record */
+    LAX_WRONG_RECORD = 18,       /* the record's kind, zero byte or step is wrong */
+    LAX_UNKNOWN_WORD = 100       /* a word is no kind, mode, state or event, or no number of a record */
 };
+
+/* What a number means, as above. */
+static inline const char *lax_refusal_text(uint32_t number)
+{
+    switch (number) {
+    case LAX_OK: return "the call was accepted";
+    case LAX_PROGRESS_IS_NAN: return "the progress is NaN";
+    case LAX_EASING_NOT_SUPPLIED: return "the easing is one of the twelve without a curve";
+    case LAX_EASING_PARAMETER: return "a parameter of the easing is not finite or beyond its limit";
+    case LAX_RECORD_BREAKS_LIMIT: return "the tween or the track breaks a limit";
+    case LAX_STEP_TOO_LONG: return "the step is above 16,777,216 s";
+    case LAX_STEP_LOST: return "the step is above 0, and the f32 sum does not show it";
+    case LAX_TOO_MANY_FOLDS: return "the step needs more than 4,096 folds";
+    case LAX_ELAPSED_TOO_LONG: return "the elapsed of a track without an end would pass 16,777,216 s";
+    case LAX_TRACK_FULL: return "the track has 64 frames, and none of them at this time";
+    case LAX_NO_FRAMES: return "the track has no frames";
+    case LAX_TRACK_LIMIT: return "a time, a value, the passes or the total would be beyond its limit";
+    case LAX_OUTPUT_TOO_SHORT: return "a lent output is shorter than what is to fill it";
+    case LAX_NO_ROOM: return "the buffer has no room for a log's head, 5 bytes, or for a record, 8 bytes";
+    case LAX_STEP_BELOW_ZERO: return "the step to be logged is NaN or below 0";
+    case LAX_WRONG_MARK: return "the log does not begin with PEL";
+    case LAX_UNKNOWN_VERSION: return "the log's version is not 1, or is cut short";
+    case LAX_WRONG_LENGTH: return "the log is longer than its buffer, or ends within a record";
+    case LAX_WRONG_RECORD: return "the record's kind, zero byte or step is wrong";
+    case LAX_UNKNOWN_WORD: return "a word is no kind, mode, state or event, or no number of a record";
+    default: return "no refusal has this number";
+    }
+}
 
 /* The kinds of easing. Sine, Expo and Elastic in three forms each, RoughEase, Wiggle and ExpoScale
  * have a name and no curve: they are refused with 2, or with 4 inside a record. */

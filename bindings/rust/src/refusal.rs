@@ -1,86 +1,73 @@
 use std::error::Error;
 use std::fmt;
 
-/// Why a call was refused. It prints its number and what that means.
-///
-/// ```
-/// use laxombiit::Refusal;
-///
-/// assert_eq!(Refusal::StepLost.number(), 6);
-/// assert_eq!(Refusal::StepLost.to_string(), "refused 6: the step is above 0, and the f32 sum does not show it");
-/// ```
-#[derive(Clone, Copy, Debug, PartialEq, Eq)]
-pub enum Refusal {
-    /// 1
-    ProgressIsNan,
-    /// 2
-    EasingNotSupplied,
-    /// 3
-    EasingParameter,
-    /// 4
-    RecordBreaksLimit,
-    /// 5
-    StepTooLong,
-    /// 6
-    StepLost,
-    /// 7
-    TooManyFolds,
-    /// 8
-    ElapsedTooLong,
-    /// 9
-    TrackFull,
-    /// 10
-    NoFrames,
-    /// 11
-    TrackLimit,
-    /// 12
-    OutputTooShort,
-    /// 13
-    NoRoom,
-    /// 14
-    StepBelowZero,
-    /// 15
-    WrongMark,
-    /// 16
-    UnknownVersion,
-    /// 17
-    WrongLength,
-    /// 18
-    WrongRecord,
+/// Each refusal: its number, its name and what it means, as docs/refusals.txt has them.
+macro_rules! refusals {
+    ($($number:literal $name:ident $text:literal)*) => {
+        /// Why a call was refused. It prints its number and what that means.
+        ///
+        /// ```
+        /// use laxombiit::Refusal;
+        ///
+        /// assert_eq!(Refusal::StepLost.number(), 6);
+        /// assert_eq!(Refusal::StepLost.to_string(), "refused 6: the step is above 0, and the f32 sum does not show it");
+        /// assert_eq!(Refusal::try_from(6), Ok(Refusal::StepLost));
+        /// assert!(Refusal::try_from(0).is_err());
+        /// ```
+        #[derive(Clone, Copy, Debug, PartialEq, Eq, Hash)]
+        #[non_exhaustive]
+        pub enum Refusal {
+            $(#[doc = concat!(stringify!($number), ": ", $text, ".")] $name = $number,)*
+        }
+
+        impl Refusal {
+            /// What it means, as [`Display`](fmt::Display) has it behind the number.
+            pub fn text(self) -> &'static str {
+                match self {
+                    $(Refusal::$name => $text,)*
+                }
+            }
+        }
+
+        /// A number as a log of refusals keeps it. 0 is no refusal: it stands for an accepted call.
+        impl TryFrom<u32> for Refusal {
+            type Error = NoRefusal;
+
+            fn try_from(number: u32) -> Result<Refusal, NoRefusal> {
+                match number {
+                    $($number => Ok(Refusal::$name),)*
+                    number => Err(NoRefusal(number)),
+                }
+            }
+        }
+    };
 }
 
-const ALL: [(Refusal, &str); 18] = [
-    (Refusal::ProgressIsNan, "the progress is NaN"),
-    (Refusal::EasingNotSupplied, "the easing is one of the twelve named kinds without a curve"),
-    (Refusal::EasingParameter, "a parameter of the easing is not finite or beyond its limit"),
-    (Refusal::RecordBreaksLimit, "the tween or the track breaks a limit"),
-    (Refusal::StepTooLong, "the step is above 16,777,216 s"),
-    (Refusal::StepLost, "the step is above 0, and the f32 sum does not show it"),
-    (Refusal::TooManyFolds, "4,096 folds do not suffice"),
-    (Refusal::ElapsedTooLong, "the track's elapsed would pass 16,777,216 s"),
-    (Refusal::TrackFull, "the track is full, and no frame has this time"),
-    (Refusal::NoFrames, "the track has no frames"),
-    (Refusal::TrackLimit, "the time, the value, the passes or the total breaks a limit"),
-    (Refusal::OutputTooShort, "the output is shorter than the list"),
-    (Refusal::NoRoom, "the buffer has no room for a head or for one more record"),
-    (Refusal::StepBelowZero, "the step to be logged is NaN or below 0"),
-    (Refusal::WrongMark, "the log's mark is wrong or cut short"),
-    (Refusal::UnknownVersion, "the log's version is unknown or cut short"),
-    (Refusal::WrongLength, "the log is longer than its buffer, or its records are not whole"),
-    (Refusal::WrongRecord, "the record that is read has a wrong kind, zero byte or step"),
-];
+refusals! {
+    1 ProgressIsNan "the progress is NaN"
+    2 EasingNotSupplied "the easing is one of the twelve without a curve"
+    3 EasingParameter "a parameter of the easing is not finite or beyond its limit"
+    4 RecordBreaksLimit "the tween or the track breaks a limit"
+    5 StepTooLong "the step is above 16,777,216 s"
+    6 StepLost "the step is above 0, and the f32 sum does not show it"
+    7 TooManyFolds "the step needs more than 4,096 folds"
+    8 ElapsedTooLong "the elapsed of a track without an end would pass 16,777,216 s"
+    9 TrackFull "the track has 64 frames, and none of them at this time"
+    10 NoFrames "the track has no frames"
+    11 TrackLimit "a time, a value, the passes or the total would be beyond its limit"
+    12 OutputTooShort "a lent output is shorter than what is to fill it"
+    13 NoRoom "the buffer has no room for a log's head, 5 bytes, or for a record, 8 bytes"
+    14 StepBelowZero "the step to be logged is NaN or below 0"
+    15 WrongMark "the log does not begin with PEL"
+    16 UnknownVersion "the log's version is not 1, or is cut short"
+    17 WrongLength "the log is longer than its buffer, or ends within a record"
+    18 WrongRecord "the record's kind, zero byte or step is wrong"
+}
 
 impl Refusal {
-    /// The number, from 1 to 18.
+    /// The number, as in C and in the manual's table.
     pub fn number(self) -> u32 {
-        self as u32 + 1
-    }
-
-    pub(crate) fn from_number(number: u32) -> Refusal {
-        match ALL.get((number as usize).wrapping_sub(1)) {
-            Some((refusal, _)) => *refusal,
-            None => unreachable!("this crate gives the library no unknown word, and has {number}"),
-        }
+        self as u32
     }
 
     /// The answer, or the refusal of that number.
@@ -90,12 +77,30 @@ impl Refusal {
             n => Err(Refusal::from_number(n)),
         }
     }
+
+    /// Of a number that the library gave, which is not 0.
+    pub(crate) fn from_number(number: u32) -> Refusal {
+        Refusal::try_from(number)
+            .unwrap_or_else(|no| unreachable!("this crate gives the library no unknown word: {no}"))
+    }
 }
 
 impl fmt::Display for Refusal {
     fn fmt(&self, f: &mut fmt::Formatter<'_>) -> fmt::Result {
-        write!(f, "refused {}: {}", self.number(), ALL[*self as usize].1)
+        write!(f, "refused {}: {}", self.number(), self.text())
     }
 }
 
 impl Error for Refusal {}
+
+/// A number that is no refusal's, from [`Refusal::try_from`].
+#[derive(Clone, Copy, Debug, PartialEq, Eq)]
+pub struct NoRefusal(pub u32);
+
+impl fmt::Display for NoRefusal {
+    fn fmt(&self, f: &mut fmt::Formatter<'_>) -> fmt::Result {
+        write!(f, "no refusal has the number {}", self.0)
+    }
+}
+
+impl Error for NoRefusal {}

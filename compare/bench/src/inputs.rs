@@ -68,7 +68,7 @@ pub fn track(easing: &Easing, count: usize) -> LaxTrack {
     let mut track = LaxTrack { count: count as u32, ..LaxTrack::default() };
     for (place, frame) in track.frames[..count].iter_mut().enumerate() {
         let time = if place == 0 { 0.0 } else { place as f32 + chance.part() / 2.0 };
-        *frame = LaxKeyframe { time, value: 200.0 * chance.part() - 100.0, easing: easing_words(easing) };
+        *frame = LaxKeyframe::new(time, 200.0 * chance.part() - 100.0, easing_words(easing));
     }
     track
 }

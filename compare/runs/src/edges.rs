@@ -140,7 +140,7 @@ pub fn plain_track(mode: u32, count: u32) -> LaxTrack {
     };
     for (place, frame) in t.frames.iter_mut().take(count as usize).enumerate() {
         let easing = LaxEasing { kind: 5, ..LaxEasing::default() };
-        *frame = LaxKeyframe { time: 1.0 + place as f32 / 2.0, value: (place * 10 % 70) as f32, easing };
+        *frame = LaxKeyframe::new(1.0 + place as f32 / 2.0, (place * 10 % 70) as f32, easing);
     }
     t
 }

@@ -14,6 +14,7 @@ mod meaning;
 mod parts;
 mod power;
 mod random;
+mod refusals;
 mod replay;
 mod rules;
 mod runner;

@@ -135,7 +135,7 @@ pub fn track_words(t: &KeyframeTrack<f32>, came: &LaxTrack) -> LaxTrack {
         complete: t.marked_complete().into(),
     };
     for (place, frame) in words.frames.iter_mut().zip(t.frames()) {
-        *place = LaxKeyframe { time: frame.time, value: frame.value, easing: easing_words(&frame.easing) };
+        *place = LaxKeyframe::new(frame.time, frame.value, easing_words(&frame.easing));
     }
     words
 }

@@ -16,6 +16,8 @@ const SOURCES: [&str; 5] = [
     "crates/animato-tween/src/tween.rs",
     "crates/animato-tween/src/keyframe.rs",
 ];
+/// What `refusals` reads.
+const REFUSALS: &str = "docs/refusals.txt";
 /// No run of a copy takes longer.
 const SECONDS: u64 = 300;
 
@@ -62,6 +64,8 @@ fn read(text: &str, work: &Path) -> Vec<Change> {
 fn try_all(work: &Path, changes: &[Change], only: Option<u64>) -> io::Result<(usize, usize)> {
     let _ = fs::remove_dir_all(work.join("compare"));
     copy(&Path::new(ROOT).join("compare"), &work.join("compare"))?;
+    fs::create_dir_all(work.join("docs"))?;
+    fs::copy(Path::new(ROOT).join(REFUSALS), work.join(REFUSALS))?;
     let sources = Path::new(ROOT).join(env::var_os("ANIMATO_SRC").unwrap_or("../shared/docs/src".into()));
     for file in SOURCES {
         fs::create_dir_all(work.join("src").join(file).parent().expect("a folder"))?;

@@ -1,4 +1,5 @@
 //! How many inputs of each kind were tried, accepted, and refused by each number.
+use crate::refusals::REFUSALS;
 use std::collections::BTreeMap;
 use std::fmt;
 
@@ -14,35 +15,34 @@ pub enum Section {
 
 pub type Heading = (Section, &'static str);
 
-const NUMBERS: [u32; 20] = [0, 1, 2, 3, 4, 5, 6, 7, 8, 9, 10, 11, 12, 13, 14, 15, 16, 17, 18, 100];
-
-fn column(number: u32) -> usize {
-    NUMBERS.iter().position(|own| *own == number).expect("a number of the rules")
+/// 0 for an accepted call, and the number of each refusal.
+fn numbers() -> impl Iterator<Item = u32> {
+    [0].into_iter().chain(REFUSALS.iter().map(|refusal| refusal.number))
 }
 
 #[derive(Default)]
 pub struct Tally {
-    rows: BTreeMap<Heading, [u64; NUMBERS.len()]>,
+    rows: BTreeMap<Heading, BTreeMap<u32, u64>>,
     pub inputs: u64,
 }
 
 impl Tally {
     pub fn count(&mut self, headings: &[Heading], number: u32) {
-        let column = column(number);
+        assert!(numbers().any(|own| own == number), "{number} is no refusal's number");
         for heading in headings {
-            self.rows.entry(*heading).or_default()[column] += 1;
+            *self.rows.entry(*heading).or_default().entry(number).or_default() += 1;
         }
         self.inputs += 1;
     }
 
     pub fn counted(&self, heading: Heading, number: u32) -> u64 {
-        self.rows.get(&heading).map_or(0, |row| row[column(number)])
+        self.rows.get(&heading).and_then(|row| row.get(&number)).copied().unwrap_or(0)
     }
 
     pub fn add(&mut self, other: Tally) {
         for (heading, counts) in other.rows {
             let row = self.rows.entry(heading).or_default();
-            row.iter_mut().zip(counts).for_each(|(sum, count)| *sum += count);
+            counts.into_iter().for_each(|(number, count)| *row.entry(number).or_default() += count);
         }
         self.inputs += other.inputs;
     }
@@ -56,10 +56,11 @@ impl fmt::Display for Tally {
                 head(f, *section)?;
                 above = Some(*section);
             }
-            write!(f, "{name:<34}{:>11}", counts.iter().sum::<u64>())?;
-            for (number, count) in NUMBERS.iter().zip(counts) {
-                let width = if *number == 0 { 11 } else { 9 };
-                if *count == 0 { write!(f, "{:>width$}", "-")? } else { write!(f, "{count:>width$}")? }
+            write!(f, "{name:<34}{:>11}", counts.values().sum::<u64>())?;
+            for number in numbers() {
+                let width = if number == 0 { 11 } else { 9 };
+                let count = counts.get(&number).map_or("-".into(), u64::to_string);
+                write!(f, "{count:>width$}")?;
             }
             writeln!(f)?;
         }
@@ -77,7 +78,7 @@ fn head(f: &mut fmt::Formatter, section: Section) -> fmt::Result {
         Section::Written => "written length of the log",
     };
     write!(f, "\n{title:<34}{:>11}{:>11}", "tried", "accepted")?;
-    for number in &NUMBERS[1..] {
+    for number in numbers().skip(1) {
         write!(f, "{number:>9}")?;
     }
     writeln!(f)

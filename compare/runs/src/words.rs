@@ -47,6 +47,16 @@ pub struct LaxEasing {
     pub count: u32,
 }
 
+impl LaxEasing {
+    pub fn floats(&self) -> [f32; 4] {
+        [self.a, self.b, self.c, self.d]
+    }
+
+    pub fn floats_mut(&mut self) -> [&mut f32; 4] {
+        [&mut self.a, &mut self.b, &mut self.c, &mut self.d]
+    }
+}
+
 unsafe impl Words for LaxEasing {
     fn layout() -> Layout {
         named(&[("kind", Whole), ("a", Float), ("b", Float), ("c", Float), ("d", Float), ("count", Whole)])
@@ -101,6 +111,12 @@ pub struct LaxKeyframe {
     pub time: f32,
     pub value: f32,
     pub easing: LaxEasing,
+}
+
+impl LaxKeyframe {
+    pub fn new(time: f32, value: f32, easing: LaxEasing) -> LaxKeyframe {
+        LaxKeyframe { time, value, easing }
+    }
 }
 
 unsafe impl Words for LaxKeyframe {

@@ -3,41 +3,41 @@ ghost use mathlib.Core.Path.{_≡_};
 ghost use Rattle.refusal.specs.Number.{numberOf};
 
 pub enum Refusal {
-    // A progress argument is NaN.
+    // The progress is NaN.
     ProgressIsNan,
-    // An easing argument is one of the twelve kinds that are named and not supplied.
+    // The easing is one of the twelve without a curve.
     EasingNotSupplied,
-    // An easing argument's parameter is not finite, or beyond its limit.
+    // A parameter of the easing is not finite or beyond its limit.
     EasingParameter,
-    // The record that came in breaks a limit.
+    // The tween or the track breaks a limit.
     RecordBreaksLimit,
-    // An update's step is above 16,777,216 seconds, or infinite.
+    // The step is above 16,777,216 s.
     StepTooLong,
-    // The step is above 0, and the rounded sum is where it was before.
+    // The step is above 0, and the f32 sum does not show it.
     StepLost,
-    // After 4,096 folds the tween would still have a fold to make.
+    // The step needs more than 4,096 folds.
     TooManyFolds,
-    // The track's elapsed would pass 16,777,216 seconds.
+    // The elapsed of a track without an end would pass 16,777,216 s.
     ElapsedTooLong,
-    // The track holds 64 frames, and none has the pushed time.
+    // The track has 64 frames, and none of them at this time.
     TrackFull,
-    // The track has no frame to sample.
+    // The track has no frames.
     NoFrames,
-    // A pushed time or value breaks a frame's limit, or a push or a change of mode the track's.
+    // A time, a value, the passes or the total would be beyond its limit.
     TrackLimit,
-    // The lent output is shorter than the list of times.
+    // A lent output is shorter than what is to fill it.
     OutputTooShort,
-    // The lent buffer has no room for a record of 8 bytes, or for a head of 5.
+    // The buffer has no room for a log's head, 5 bytes, or for a record, 8 bytes.
     NoRoom,
-    // A step to be logged is NaN, or below 0.
+    // The step to be logged is NaN or below 0.
     StepBelowZero,
-    // The written log's mark is wrong, or cut short.
+    // The log does not begin with PEL.
     WrongMark,
-    // The written log's version is unknown, or cut short.
+    // The log's version is not 1, or is cut short.
     UnknownVersion,
-    // The written log is longer than the buffer, or its records are not whole.
+    // The log is longer than its buffer, or ends within a record.
     WrongLength,
-    // A record that is read has a wrong kind, a zero byte that is not 0, or a wrong step.
+    // The record's kind, zero byte or step is wrong.
     WrongRecord,
 }
 

@@ -72,16 +72,43 @@ pub fn say_fault(argument: usize, text: &[u8], fault: Fault) {
 
 fn say_why(fd: i32, number: u32) {
     match number {
-        4 => say(fd, b"the ramp, or the tween on the way, breaks a limit"),
-        5 => say(fd, b"the step is above 16777216 s"),
-        6 => say(fd, b"the step is above 0, and the sum does not show it"),
-        7 => say(fd, b"the step needs more than 4096 folds"),
-        14 => say(fd, b"the step is below 0"),
+        1 => say(fd, b"the progress is NaN"),
+        2 => say(fd, b"the easing is one of the twelve without a curve"),
+        3 => say(
+            fd,
+            b"a parameter of the easing is not finite or beyond its limit",
+        ),
+        4 => say(fd, b"the tween or the track breaks a limit"),
+        5 => say(fd, b"the step is above 16,777,216 s"),
+        6 => say(fd, b"the step is above 0, and the f32 sum does not show it"),
+        7 => say(fd, b"the step needs more than 4,096 folds"),
+        8 => say(
+            fd,
+            b"the elapsed of a track without an end would pass 16,777,216 s",
+        ),
+        9 => say(
+            fd,
+            b"the track has 64 frames, and none of them at this time",
+        ),
+        10 => say(fd, b"the track has no frames"),
+        11 => say(
+            fd,
+            b"a time, a value, the passes or the total would be beyond its limit",
+        ),
+        12 => say(fd, b"a lent output is shorter than what is to fill it"),
+        13 => say(
+            fd,
+            b"the buffer has no room for a log's head, 5 bytes, or for a record, 8 bytes",
+        ),
+        14 => say(fd, b"the step to be logged is NaN or below 0"),
         15 => say(fd, b"the log does not begin with PEL"),
-        16 => say(fd, b"the log's version is not 1"),
-        17 => say(fd, b"the log is cut within a record"),
+        16 => say(fd, b"the log's version is not 1, or is cut short"),
+        17 => say(
+            fd,
+            b"the log is longer than its buffer, or ends within a record",
+        ),
         18 => say(fd, b"the record's kind, zero byte or step is wrong"),
-        _ => say(fd, b"the call is refused"),
+        _ => say(fd, b"no refusal has this number"),
     }
 }
 

@@ -1,7 +1,8 @@
 //! A ramp as text.
 use crate::meaning::{self, name};
+use crate::rules::parameters;
 use crate::words::{LaxEasing, LaxLoop, LaxTween};
-use oracle::{Easing, Loop};
+use oracle::Loop;
 
 /// Each name with its value; how a float is written is the caller's matter.
 pub fn settings(t: &LaxTween, float: fn(f32) -> String) -> [(&'static str, String); 7] {
@@ -25,15 +26,9 @@ fn mode(words: &LaxLoop) -> String {
 }
 
 fn easing(words: &LaxEasing, float: fn(f32) -> String) -> String {
-    let easing = meaning::easing(words);
-    let parameters = match easing {
-        Easing::CubicBezier(x1, y1, x2, y2) => [x1, y1, x2, y2].map(float).to_vec(),
-        Easing::Steps(count) | Easing::Wiggle { wiggles: count } => vec![count.to_string()],
-        Easing::RoughEase { strength, points } => vec![float(strength), points.to_string()],
-        Easing::SlowMo { linear_ratio, power } => vec![float(linear_ratio), float(power)],
-        Easing::CustomBounce { strength } => vec![float(strength)],
-        Easing::ExpoScale { start, end } => vec![float(start), float(end)],
-        _ => Vec::new(),
-    };
-    [vec![name(&easing)], parameters].concat().join(" ")
+    let own = parameters(words.kind);
+    let floats = words.floats().into_iter().take(own.floats.len()).map(float);
+    let count = own.count.is_some().then(|| words.count.to_string());
+    let name = name(&meaning::easing(words));
+    [name].into_iter().chain(floats).chain(count).collect::<Vec<String>>().join(" ")
 }

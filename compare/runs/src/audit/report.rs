@@ -4,6 +4,7 @@ use super::ramp::settings;
 use super::survey::{Seen, Survey, survey};
 use crate::log::HEAD;
 use crate::meaning::{self, name};
+use crate::refusals::explained;
 use crate::rules;
 use crate::subjects::TweenCall;
 use crate::words::LaxTween;
@@ -29,7 +30,7 @@ pub fn report(t: &LaxTween, log: &[u8], piped: bool) -> (String, u32) {
             let found = survey(t, &log[HEAD..]);
             (found.lines(), found.refused)
         }
-        number => (vec![format!("refused {}", reason(number)), format!("end refused {number}")], number),
+        number => (vec![format!("refused {}", explained(number)), format!("end refused {number}")], number),
     };
     ([ramp, lines].concat().iter().map(|line| format!("{line}\n")).collect(), number)
 }
@@ -77,8 +78,8 @@ impl Survey {
     }
 
     fn stopped(&self) -> Vec<String> {
-        let line = format!("stopped at record {}: {}", self.seen.len(), reason(self.refused));
-        said_where(self.refused != 0, &line)
+        let line = || format!("stopped at record {}: {}", self.seen.len(), explained(self.refused));
+        if self.refused == 0 { Vec::new() } else { vec![line()] }
     }
 
     fn answers(&self, many: &[&Seen], gaps: &[&Seen], repeats: &[&Seen]) -> Vec<String> {
@@ -170,7 +171,8 @@ fn missing_line(one: &Seen) -> String {
 }
 
 fn twice_line(one: &Seen) -> String {
-    let either = "by the numbers it was written twice, or 65535 records are missing, or 65536 more, and so on";
+    let either =
+        "by the numbers it was written twice, or 65535 records are missing, or 65536 more, and so on";
     let told = "they can't tell which, and it was not replayed";
     format!("answer record {} repeats the number before it: {either}: {told}", one.place)
 }
@@ -188,19 +190,4 @@ fn tween_lines(t: &LaxTween) -> Vec<String> {
         format!("tween reversed {}", if t.ping_pong_reverse == 0 { "no" } else { "yes" }),
         format!("tween value {value}"),
     ]
-}
-
-fn reason(number: u32) -> String {
-    let (name, why) = match number {
-        4 => ("RecordBreaksLimit", "the ramp, or the tween on the way, breaks a limit"),
-        5 => ("StepTooLong", "the step is above 16777216 s"),
-        6 => ("StepLost", "the step is above 0, and the sum does not show it"),
-        7 => ("TooManyFolds", "the step needs more than 4096 folds"),
-        15 => ("WrongMark", "the log does not begin with PEL"),
-        16 => ("UnknownVersion", "the log's version is not 1"),
-        17 => ("WrongLength", "the log is cut within a record"),
-        18 => ("WrongRecord", "the record's kind, zero byte or step is wrong"),
-        _ => ("", ""),
-    };
-    format!("{number} {name}: {why}")
 }

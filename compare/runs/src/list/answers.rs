@@ -2,13 +2,13 @@
 //! where the call hands a record back a 1 follows, for the one that came.
 use super::form::track_words;
 use crate::input::{After, Input};
+use crate::refusals::UNKNOWN;
 use crate::subjects::*;
 use crate::words::*;
 
 /// What stands in a lent output before a call: 1e30, which no call writes.
 const MARK: u32 = 0x7149_f2ca;
 const NAN: u32 = 0x7fc0_0000;
-const UNKNOWN: u32 = 100;
 
 pub fn answer(input: &Input) -> (Vec<u32>, After) {
     match input {

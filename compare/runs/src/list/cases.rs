@@ -1,5 +1,5 @@
 //! Which cases the list has: edges, and random ones of a fixed seed.
-use super::form::List;
+use super::written::List;
 use crate::edges::{plain_track, plain_tween, track_calls, tween_calls};
 use crate::input::{After, Input};
 use crate::make::Maker;

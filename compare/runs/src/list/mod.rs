@@ -3,10 +3,11 @@
 mod answers;
 mod cases;
 mod form;
+mod written;
 
 use crate::tally::{Section, Tally};
-use form::List;
 use std::fs;
+use written::List;
 
 /// Writes the list, and says how many cases of each call it has. The bytes are the same each time.
 pub fn run(file: &str) -> bool {
@@ -28,7 +29,8 @@ pub fn run(file: &str) -> bool {
 
 /// Each call with a number that it can be refused by, 0 where it is accepted, and that the list has not.
 fn missing(tally: &Tally) -> Vec<(&'static str, u32)> {
-    let wanted =
-        form::CALLS.iter().flat_map(|(_, call, numbers)| numbers.iter().map(|number| (*call, *number)));
+    let wanted = form::CALLS.iter().flat_map(|(_, call, record, own)| {
+        [&[0], *record, *own].concat().into_iter().map(|number| (*call, number))
+    });
     wanted.filter(|(call, number)| tally.counted((Section::Call, call), *number) == 0).collect()
 }

@@ -5,26 +5,23 @@ use crate::words::{LaxEasing, LaxLoop};
 impl Maker {
     /// Supplied and within its limits; every third has something in the words that are not looked at.
     pub fn easing(&mut self) -> LaxEasing {
-        let kind = if self.once_in(3) {
-            self.pick(&[BEZIER, STEPS, SLOW_MO, CUSTOM_BOUNCE])
-        } else {
-            self.supplied()
-        };
+        let kind = if self.once_in(3) { self.pick(&with_parameters()) } else { self.supplied() };
         let junk = self.once_in(3);
         let [a, b, c, d] = [0; 4].map(|_| if junk { self.odd() } else { 0.0 });
-        let easing = LaxEasing { kind, a, b, c, d, count: if junk { self.word() } else { 0 } };
-        match kind {
-            BEZIER if self.once_in(4) => {
-                LaxEasing { a: self.end(), b: self.size(), c: self.end(), d: self.size(), ..easing }
-            }
-            BEZIER => {
-                LaxEasing { a: self.share(), b: self.size(), c: self.share(), d: self.size(), ..easing }
-            }
-            STEPS => LaxEasing { count: self.steps(), ..easing },
-            SLOW_MO => LaxEasing { a: self.share(), b: self.size(), ..easing },
-            CUSTOM_BOUNCE => LaxEasing { a: self.share(), ..easing },
-            _ => easing,
+        let mut easing = LaxEasing { kind, a, b, c, d, count: if junk { self.word() } else { 0 } };
+        let flat = kind == BEZIER && self.once_in(4);
+        let own = parameters(kind);
+        for (word, limit) in easing.floats_mut().into_iter().zip(own.floats) {
+            *word = match limit {
+                Limit::Size => self.size(),
+                Limit::Finite if flat => self.end(),
+                Limit::Finite => self.share(),
+            };
         }
+        if own.count.is_some() {
+            easing.count = self.steps();
+        }
+        easing
     }
 
     fn supplied(&mut self) -> u32 {
@@ -70,8 +67,8 @@ impl Maker {
     pub fn odd_easing(&mut self) -> LaxEasing {
         let mut easing = self.easing();
         match self.below(4) {
-            0 => easing.kind = self.below(40),
-            1 => easing.kind = self.pick(&[38, 39, 100, u32::MAX]),
+            0 => easing.kind = self.below(KINDS + 2),
+            1 => easing.kind = self.pick(&[KINDS, KINDS + 1, 100, u32::MAX]),
             2 => easing = LaxEasing { a: self.odd(), b: self.odd(), c: self.odd(), d: self.odd(), ..easing },
             _ => easing.count = self.odd_count(),
         }

@@ -45,7 +45,7 @@ impl Maker {
                 _ => t.easing.count = self.odd_count(),
             }
         }
-        let [a, b, c, d] = [t.easing.a, t.easing.b, t.easing.c, t.easing.d].map(finite);
+        let [a, b, c, d] = t.easing.floats().map(finite);
         LaxTween { easing: LaxEasing { a, b, c, d, ..t.easing }, ..t }
     }
 

@@ -28,7 +28,7 @@ impl Maker {
         let mut time = if self.once_in(2) { 0.0 } else { self.first_time(gaps) };
         for place in 0..PLACES {
             if place < count {
-                t.frames[place] = LaxKeyframe { time, value: self.value(), easing: self.easing() };
+                t.frames[place] = LaxKeyframe::new(time, self.value(), self.easing());
                 time = self.later(time, gaps);
             } else if junk {
                 t.frames[place].words_mut().iter_mut().for_each(|word| *word = self.word());

@@ -1,31 +1,15 @@
-use super::first;
+use super::{KINDS, Limit, first, is_one_of_twelve, parameters};
 use crate::words::LaxEasing;
-
-pub const KINDS: u32 = 38;
-pub const BEZIER: u32 = 31;
-pub const STEPS: u32 = 32;
-pub const SLOW_MO: u32 = 34;
-pub const CUSTOM_BOUNCE: u32 = 36;
-/// Sine, Expo and Elastic in three forms each, RoughEase, Wiggle, ExpoScale.
-const TWELVE: [u32; 12] = [13, 14, 15, 16, 17, 18, 25, 26, 27, 33, 35, 37];
 
 pub fn easing_unknown(e: &LaxEasing) -> bool {
     e.kind >= KINDS
 }
 
-pub fn is_one_of_twelve(e: &LaxEasing) -> bool {
-    TWELVE.contains(&e.kind)
-}
-
 pub fn breaks_parameter(e: &LaxEasing) -> bool {
-    let beyond = |x: f32| x.abs() > 1024.0;
-    match e.kind {
-        BEZIER => [e.a, e.b, e.c, e.d].iter().any(|x| !x.is_finite()) || beyond(e.b) || beyond(e.d),
-        STEPS => e.count > 65_536,
-        SLOW_MO => !e.a.is_finite() || !e.b.is_finite() || beyond(e.b),
-        CUSTOM_BOUNCE => !e.a.is_finite(),
-        _ => false,
-    }
+    let own = parameters(e.kind);
+    let breaks = |(x, limit): (f32, &Limit)| !x.is_finite() || (*limit == Limit::Size && x.abs() > 1024.0);
+    let breaks_count = own.count.as_ref().is_some_and(|range| !range.contains(&e.count));
+    e.floats().into_iter().zip(own.floats).any(breaks) || breaks_count
 }
 
 /// What an easing must be inside a record.

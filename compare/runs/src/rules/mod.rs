@@ -1,11 +1,13 @@
 //! When a call is refused, and by which number: the rule book's table, written apart from the library.
 mod easing;
+mod kinds;
 mod log;
 mod replay;
 mod track;
 mod tween;
 
 pub use easing::*;
+pub use kinds::*;
 pub use log::*;
 pub use replay::*;
 pub use track::*;

@@ -1,5 +1,5 @@
 use super::*;
-use crate::words::{LaxEasing, LaxKeyframe, LaxLoop, LaxTrack, PLACES};
+use crate::words::{LaxKeyframe, LaxLoop, LaxTrack, PLACES};
 
 /// The frames of a track; of one with too large a count, all places.
 pub fn frames(t: &LaxTrack) -> &[LaxKeyframe] {
@@ -37,56 +37,64 @@ pub fn track_breaks(t: &LaxTrack) -> bool {
         || breaks_total(last_time(t), &t.looping)
 }
 
-pub fn track_refused(t: &LaxTrack) -> u32 {
-    first(&[(100, &|| track_unknown(t)), (4, &|| track_breaks(t))])
+/// By which every call on a track can be refused.
+pub const TRACK_REFUSALS: [u32; 2] = [100, 4];
+
+/// Of a call on a track: the record's rules, and its own.
+fn of_track(t: &LaxTrack, own: &[Rule]) -> u32 {
+    let record: [Rule; 2] = [(100, &|| track_unknown(t)), (4, &|| track_breaks(t))];
+    first(&[&record, own].concat())
 }
 
-pub fn push_refused(t: &LaxTrack, time: f32, value: f32, easing: &LaxEasing) -> u32 {
+pub fn track_refused(t: &LaxTrack) -> u32 {
+    of_track(t, &[])
+}
+
+/// A pushed -0 is no reason to refuse.
+pub fn push_refused(t: &LaxTrack, pushed: &LaxKeyframe) -> u32 {
+    let LaxKeyframe { time, value, easing } = *pushed;
     let last = || if time > last_time(t) { time } else { last_time(t) };
-    first(&[
-        (100, &|| track_unknown(t) || easing_unknown(easing)),
-        (4, &|| track_breaks(t)),
-        (2, &|| is_one_of_twelve(easing)),
-        (3, &|| breaks_parameter(easing)),
-        (11, &|| !is_between(time, 0.0, LIMIT) || !is_value(value) || breaks_total(last(), &t.looping)),
-        (9, &|| t.count as usize == PLACES && frames(t).iter().all(|frame| frame.time != time)),
-    ])
+    of_track(
+        t,
+        &[
+            (100, &|| easing_unknown(&easing)),
+            (2, &|| is_one_of_twelve(&easing)),
+            (3, &|| breaks_parameter(&easing)),
+            (11, &|| !is_between(time, 0.0, LIMIT) || !is_value(value) || breaks_total(last(), &t.looping)),
+            (9, &|| t.count as usize == PLACES && frames(t).iter().all(|frame| frame.time != time)),
+        ],
+    )
 }
 
 pub fn looping_refused(t: &LaxTrack, mode: &LaxLoop) -> u32 {
-    first(&[
-        (100, &|| track_unknown(t) || loop_unknown(mode)),
-        (4, &|| track_breaks(t)),
-        (11, &|| breaks_passes(mode) || breaks_total(last_time(t), mode)),
-    ])
+    of_track(
+        t,
+        &[(100, &|| loop_unknown(mode)), (11, &|| breaks_passes(mode) || breaks_total(last_time(t), mode))],
+    )
 }
 
 pub fn sample_refused(t: &LaxTrack) -> u32 {
-    first(&[(100, &|| track_unknown(t)), (4, &|| track_breaks(t)), (10, &|| t.count == 0)])
+    of_track(t, &[(10, &|| t.count == 0)])
 }
 
 pub fn samples_refused(t: &LaxTrack, times: usize, out: usize) -> u32 {
-    first(&[
-        (100, &|| track_unknown(t)),
-        (4, &|| track_breaks(t)),
-        (10, &|| t.count == 0),
-        (12, &|| out < times),
-    ])
+    of_track(t, &[(10, &|| t.count == 0), (12, &|| out < times)])
 }
 
 pub fn seek_to_refused(t: &LaxTrack, progress: f32) -> u32 {
-    first(&[(100, &|| track_unknown(t)), (4, &|| track_breaks(t)), (1, &|| progress.is_nan())])
+    of_track(t, &[(1, &|| progress.is_nan())])
 }
 
 pub fn track_update_refused(t: &LaxTrack, step: f32) -> u32 {
     let sum = t.elapsed + counted(step);
     let moves = t.complete == 0 && t.count >= 2;
     let endless = passes(&t.looping).is_none();
-    first(&[
-        (100, &|| track_unknown(t)),
-        (4, &|| track_breaks(t)),
-        (5, &|| step > LIMIT),
-        (6, &|| moves && counted(step) > 0.0 && sum == t.elapsed),
-        (8, &|| moves && endless && sum > LIMIT),
-    ])
+    of_track(
+        t,
+        &[
+            (5, &|| step > LIMIT),
+            (6, &|| moves && counted(step) > 0.0 && sum == t.elapsed),
+            (8, &|| moves && endless && sum > LIMIT),
+        ],
+    )
 }

@@ -1,4 +1,4 @@
-use super::{LIMIT, counted, easing_fits, easing_unknown, first, is_between, is_value};
+use super::{LIMIT, Rule, counted, easing_fits, easing_unknown, first, is_between, is_value};
 use crate::words::{LaxLoop, LaxTween};
 
 const MODES: u32 = 5;
@@ -94,25 +94,28 @@ pub fn folds(t: &LaxTween, step: f32) -> Option<u32> {
     (elapsed < t.duration).then_some(MOST_FOLDS)
 }
 
+/// By which every call on a tween can be refused.
+pub const TWEEN_REFUSALS: [u32; 2] = [100, 4];
+
+/// Of a call on a tween: the record's rules, and its own.
+fn of_tween(t: &LaxTween, own: &[Rule]) -> u32 {
+    let record: [Rule; 2] = [(100, &|| tween_unknown(t)), (4, &|| tween_breaks(t))];
+    first(&[&record, own].concat())
+}
+
 pub fn tween_refused(t: &LaxTween) -> u32 {
-    first(&[(100, &|| tween_unknown(t)), (4, &|| tween_breaks(t))])
+    of_tween(t, &[])
 }
 
 pub fn seek_refused(t: &LaxTween, progress: f32) -> u32 {
-    first(&[(100, &|| tween_unknown(t)), (4, &|| tween_breaks(t)), (1, &|| progress.is_nan())])
+    of_tween(t, &[(1, &|| progress.is_nan())])
 }
 
 pub fn update_refused(t: &LaxTween, step: f32) -> u32 {
-    first(&[
-        (100, &|| tween_unknown(t)),
-        (4, &|| tween_breaks(t)),
-        (5, &|| step > LIMIT),
-        (6, &|| step_lost(t, step)),
-        (7, &|| folds(t, step).is_none()),
-    ])
+    of_tween(t, &[(5, &|| step > LIMIT), (6, &|| step_lost(t, step)), (7, &|| folds(t, step).is_none())])
 }
 
 /// Of a run of steps as a whole; the steps are then refused one by one.
 pub fn run_refused(t: &LaxTween, steps: usize, values: usize, folds: usize) -> u32 {
-    first(&[(100, &|| tween_unknown(t)), (4, &|| tween_breaks(t)), (12, &|| values < steps || folds < steps)])
+    of_tween(t, &[(12, &|| values < steps || folds < steps)])
 }

@@ -79,8 +79,12 @@ impl TrackCall {
 
     fn refused(&self, t: &LaxTrack) -> u32 {
         match self {
-            Push(time, value) => rules::push_refused(t, *time, *value, &LaxEasing::default()),
-            PushEased(time, value, easing) => rules::push_refused(t, *time, *value, easing),
+            Push(time, value) => {
+                rules::push_refused(t, &LaxKeyframe::new(*time, *value, LaxEasing::default()))
+            }
+            PushEased(time, value, easing) => {
+                rules::push_refused(t, &LaxKeyframe::new(*time, *value, *easing))
+            }
             Looping(mode) => rules::looping_refused(t, mode),
             ValueAt(_) | Value => rules::sample_refused(t),
             ValuesAt { times, out } => rules::samples_refused(t, times.len(), *out),
