@@ -63,6 +63,7 @@ int main(void)
     test_tracks();
     test_logs();
     test_replays();
+    test_refusals();
     printf("C interface: %d hold, %d fail\n", held, failed);
     return failed != 0;
 }

@@ -28,5 +28,6 @@ void test_tweens(void);
 void test_tracks(void);
 void test_logs(void);
 void test_replays(void);
+void test_refusals(void);
 
 #endif

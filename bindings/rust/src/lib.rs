@@ -14,7 +14,7 @@ mod tween;
 
 pub use easing::Easing;
 pub use found::Found;
-pub use refusal::Refusal;
+pub use refusal::{NoRefusal, Refusal};
 pub use track::{Filled, Keyframe, Track};
 pub use tween::{Loop, Ran, Stopped, Tween, TweenSnapshot, TweenState, Updated};
 

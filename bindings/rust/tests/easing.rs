@@ -63,9 +63,3 @@ fn equals() {
     assert_eq!(Easing::Steps(70_000).equals(&Easing::Linear), Err(Refusal::EasingParameter));
     assert_eq!(Easing::Steps(70_000).equals(&Easing::EaseInExpo), Err(Refusal::EasingNotSupplied));
 }
-
-#[test]
-fn refusals_print() {
-    assert_eq!(Refusal::ProgressIsNan.to_string(), "refused 1: the progress is NaN");
-    assert_eq!(Refusal::OutputTooShort.number(), 12);
-}

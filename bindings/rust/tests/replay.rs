@@ -342,5 +342,5 @@ fn damaged_logs() {
 #[test]
 fn what_stopped_is_said() {
     let stopped = replay(pump(), &written(&[Event::Pause]), &mut []).unwrap_err();
-    assert_eq!(stopped.to_string(), "after 0 records: refused 12: the output is shorter than the list");
+    assert_eq!(stopped.to_string(), "after 0 records: refused 12: a lent output is shorter than what is to fill it");
 }
