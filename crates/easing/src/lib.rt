@@ -8,3 +8,5 @@ mod params;
 pub use answers::Eased;
 pub use answers::Equality;
 pub use kinds::Easing;
+pub use params::Params;
+pub use params::params_of;

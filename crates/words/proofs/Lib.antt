@@ -1,6 +1,5 @@
 mod Fitting
 mod Known
-mod Plain
 pub mod Quick
 pub mod ReadBack
 mod Rest

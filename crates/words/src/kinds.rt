@@ -1,7 +1,6 @@
 // An easing as six words: its kind's place in `all_named` from 0, up to four parameters and a count.
 ghost use mathlib.Core.Path.{_≡_};
-ghost use Rattle.math.specs.Rounded.{zeroF};
-ghost use Rattle.words.specs.Kinds.{words, easingFrom, easingWords};
+ghost use Rattle.words.specs.Kinds.{easingFrom, easingWords};
 use easing::Easing;
 
 // CubicBezier: x1, y1, x2, y2 in a to d. Steps and Wiggle: count. RoughEase: strength in a, points in count.
@@ -81,62 +80,16 @@ pub fn easing_of(w: LaxEasing) -> EasingRead
     }
 }
 
-// The words of a kind without parameters.
-fn bare(kind: u32) -> LaxEasing
-    ensures { λ r. ⌜ r ≡ words kind zeroF zeroF zeroF zeroF 0 ⌝ }
-{
-    LaxEasing {
-        kind,
-        a: 0.0,
-        b: 0.0,
-        c: 0.0,
-        d: 0.0,
-        count: 0,
-    }
-}
-
 pub fn easing_words(e: Easing) -> LaxEasing
     ensures { λ r. ⌜ r ≡ easingWords e ⌝ }
 {
-    let mut w = bare(e.kind_number());
-    match e {
-        Easing::CubicBezier(x1, y1, x2, y2) => {
-            w.a = x1;
-            w.b = y1;
-            w.c = x2;
-            w.d = y2;
-            w
-        }
-        Easing::Steps(n) => {
-            w.count = n;
-            w
-        }
-        Easing::RoughEase { strength, points } => {
-            w.a = strength;
-            w.count = points;
-            w
-        }
-        Easing::SlowMo {
-            linear_ratio,
-            power,
-        } => {
-            w.a = linear_ratio;
-            w.b = power;
-            w
-        }
-        Easing::Wiggle { wiggles } => {
-            w.count = wiggles;
-            w
-        }
-        Easing::CustomBounce { strength } => {
-            w.a = strength;
-            w
-        }
-        Easing::ExpoScale { start, end } => {
-            w.a = start;
-            w.b = end;
-            w
-        }
-        _ => w,
+    let p = easing::params_of(e);
+    LaxEasing {
+        kind: e.kind_number(),
+        a: p.a,
+        b: p.b,
+        c: p.c,
+        d: p.d,
+        count: p.count,
     }
 }
