@@ -2,6 +2,7 @@
 ghost use mathlib.Core.Path.{_≡_};
 ghost use Rattle.words.specs.Kinds.{easingFrom, easingWords};
 use easing::Easing;
+use easing::Params;
 
 // CubicBezier: x1, y1, x2, y2 in a to d. Steps and Wiggle: count. RoughEase: strength in a, points in count.
 // SlowMo: linear_ratio in a, power in b. CustomBounce: strength in a. ExpoScale: start in a, end in b.
@@ -27,57 +28,11 @@ pub enum EasingRead {
 pub fn easing_of(w: LaxEasing) -> EasingRead
     ensures { λ r. ⌜ r ≡ easingFrom w ⌝ }
 {
-    let kind = w.kind;
-    match kind {
-        0 => EasingRead::Known(Easing::Linear),
-        1 => EasingRead::Known(Easing::EaseInQuad),
-        2 => EasingRead::Known(Easing::EaseOutQuad),
-        3 => EasingRead::Known(Easing::EaseInOutQuad),
-        4 => EasingRead::Known(Easing::EaseInCubic),
-        5 => EasingRead::Known(Easing::EaseOutCubic),
-        6 => EasingRead::Known(Easing::EaseInOutCubic),
-        7 => EasingRead::Known(Easing::EaseInQuart),
-        8 => EasingRead::Known(Easing::EaseOutQuart),
-        9 => EasingRead::Known(Easing::EaseInOutQuart),
-        10 => EasingRead::Known(Easing::EaseInQuint),
-        11 => EasingRead::Known(Easing::EaseOutQuint),
-        12 => EasingRead::Known(Easing::EaseInOutQuint),
-        13 => EasingRead::Known(Easing::EaseInSine),
-        14 => EasingRead::Known(Easing::EaseOutSine),
-        15 => EasingRead::Known(Easing::EaseInOutSine),
-        16 => EasingRead::Known(Easing::EaseInExpo),
-        17 => EasingRead::Known(Easing::EaseOutExpo),
-        18 => EasingRead::Known(Easing::EaseInOutExpo),
-        19 => EasingRead::Known(Easing::EaseInCirc),
-        20 => EasingRead::Known(Easing::EaseOutCirc),
-        21 => EasingRead::Known(Easing::EaseInOutCirc),
-        22 => EasingRead::Known(Easing::EaseInBack),
-        23 => EasingRead::Known(Easing::EaseOutBack),
-        24 => EasingRead::Known(Easing::EaseInOutBack),
-        25 => EasingRead::Known(Easing::EaseInElastic),
-        26 => EasingRead::Known(Easing::EaseOutElastic),
-        27 => EasingRead::Known(Easing::EaseInOutElastic),
-        28 => EasingRead::Known(Easing::EaseInBounce),
-        29 => EasingRead::Known(Easing::EaseOutBounce),
-        30 => EasingRead::Known(Easing::EaseInOutBounce),
-        31 => EasingRead::Known(Easing::CubicBezier(w.a, w.b, w.c, w.d)),
-        32 => EasingRead::Known(Easing::Steps(w.count)),
-        33 => EasingRead::Known(Easing::RoughEase {
-            strength: w.a,
-            points: w.count,
-        }),
-        34 => EasingRead::Known(Easing::SlowMo {
-            linear_ratio: w.a,
-            power: w.b,
-        }),
-        35 => EasingRead::Known(Easing::Wiggle { wiggles: w.count }),
-        36 => EasingRead::Known(Easing::CustomBounce { strength: w.a }),
-        37 => EasingRead::Known(Easing::ExpoScale {
-            start: w.a,
-            end: w.b,
-        }),
-        _ => EasingRead::Unknown,
+    if w.kind < 38 {
+        let p = Params::new(w.a, w.b, w.c, w.d, w.count);
+        return EasingRead::Known(Easing::of_number(w.kind, p));
     }
+    EasingRead::Unknown
 }
 
 pub fn easing_words(e: Easing) -> LaxEasing
