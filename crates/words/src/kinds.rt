@@ -2,6 +2,7 @@
 ghost use mathlib.Core.Path.{_≡_};
 ghost use Rattle.words.specs.Kinds.{easingFrom, easingWords};
 use easing::Easing;
+use easing::KINDS;
 use easing::Params;
 
 // CubicBezier: x1, y1, x2, y2 in a to d. Steps and Wiggle: count. RoughEase: strength in a, points in count.
@@ -28,7 +29,7 @@ pub enum EasingRead {
 pub fn easing_of(w: LaxEasing) -> EasingRead
     ensures { λ r. ⌜ r ≡ easingFrom w ⌝ }
 {
-    if w.kind < 38 {
+    if w.kind < KINDS {
         let p = Params::new(w.a, w.b, w.c, w.d, w.count);
         return EasingRead::Known(Easing::of_number(w.kind, p));
     }

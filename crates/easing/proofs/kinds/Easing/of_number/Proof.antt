@@ -1,5 +1,5 @@
 -- `of_number` meets its contract: each arm is told its number, and the last is behind the list. Assumes nothing.
-use lib.ListN.{List·getD-eq-default}
+use lib.ListN.{length, List·getD-eq-default}
 use Rattle.easing.specs.declared.kinds.Easing.the-variants.{Linear}
 use Rattle.easing.specs.Kinds.{allNamed}
 use Rattle.easing.specs.Params.{withParams}
@@ -50,4 +50,4 @@ of-number-spec =
     (λ c. simp (c .match .keys36))
     (λ c. simp (c .match .keys37))
     (λ c. simp (c .match .keys38))
-    (λ c. simp (List·getD-eq-default allNamed Linear (at-least 38 _ (c .match .rest)))))
+    (λ c. simp (List·getD-eq-default allNamed Linear (at-least (length allNamed) _ (c .match .rest)))))
