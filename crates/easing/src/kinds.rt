@@ -48,6 +48,9 @@ pub enum Easing {
     ExpoScale { start: f32, end: f32 },
 }
 
+// How many kinds are named.
+pub const KINDS: u32 = 38;
+
 impl Easing {
     // The kind's place in `all_named`, from 0.
     pub fn kind_number(self) -> u32

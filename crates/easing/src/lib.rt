@@ -8,3 +8,6 @@ mod params;
 pub use answers::Eased;
 pub use answers::Equality;
 pub use kinds::Easing;
+pub use kinds::KINDS;
+pub use params::Params;
+pub use params::params_of;

@@ -1,4 +1,7 @@
 // An easing: its name, and its parameters behind it.
+use easing::Easing;
+use easing::KINDS;
+use easing::Params;
 use lines::Counted;
 use lines::Expected;
 use lines::Valued;
@@ -11,9 +14,11 @@ pub enum Eased {
     Wrong(Word, Expected),
 }
 
+// Its number; KINDS where there is none.
 fn kind_named(text: &[u8], word: Word) -> u32 {
+    let many = KINDS;
     let mut kind: u32 = 0;
-    while kind < 38 {
+    while kind < many {
         if lines::is_name(text, word, names::easing(kind)) {
             return kind;
         }
@@ -22,21 +27,32 @@ fn kind_named(text: &[u8], word: Word) -> u32 {
     kind
 }
 
-// How many of a kind's parameters are decimals.
+// The parameters that a kind has are 1, the others 0.
+fn had(kind: u32) -> Params {
+    easing::params_of(Easing::of_number(kind, Params::new(1.0, 1.0, 1.0, 1.0, 1)))
+}
+
+// How many of a kind's parameters are decimals. They stand in a, b, c, d, in this order.
 pub fn decimals(kind: u32) -> u32 {
-    match kind {
-        31 => 4,
-        33 => 1,
-        34 => 2,
-        36 => 1,
-        37 => 2,
-        _ => 0,
+    let p = had(kind);
+    if p.d > 0.0 {
+        return 4;
     }
+    if p.c > 0.0 {
+        return 3;
+    }
+    if p.b > 0.0 {
+        return 2;
+    }
+    if p.a > 0.0 {
+        return 1;
+    }
+    0
 }
 
 // Whether the last parameter of a kind is a whole number.
 pub fn has_count(kind: u32) -> bool {
-    (kind == 32) | (kind == 33) | (kind == 35)
+    had(kind).count > 0
 }
 
 fn with_parameter(e: LaxEasing, place: u32, x: f32) -> LaxEasing {
@@ -94,7 +110,7 @@ fn with_count(e: LaxEasing, text: &[u8], behind: usize) -> Eased {
 
 pub fn easing_at(text: &[u8], word: Word) -> Eased {
     let kind = kind_named(text, word);
-    if kind > 37 {
+    if kind >= KINDS {
         return Eased::Wrong(word, Expected::Easing);
     }
     let bare = LaxEasing {

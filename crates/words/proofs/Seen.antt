@@ -18,6 +18,7 @@ use Rattle.math.proofs.Order.{lt-le, le-lt-chain, lt-le-chain}
 use Rattle.math.proofs.Upward.{Up}
 use Rattle.bezier.specs.declared.types.Found.{Found}
 use Rattle.bezier.specs.Bezier.{plainOf}
+use Rattle.easing.specs.Params.{withParams}
 use Rattle.easing.specs.Apply.{fitsRecordOf}
 use Rattle.frames.specs.declared.frame.Keyframe.{Keyframe}
 use Rattle.frames.specs.Limits.{isTime, frameWithin, framesAfter, framesWithin, beforeAll, noFrame}
@@ -31,7 +32,7 @@ use Rattle.keyframe.proofs.Records.{after-step, after-end, last-time, clocked}
 use Rattle.words.specs.declared.tracks.LaxKeyframe.{LaxKeyframe}
 use Rattle.words.specs.declared.tracks.LaxTrack.{LaxTrack}
 use Rattle.words.specs.declared.sampling.Quick.the-variants.{Value}
-use Rattle.words.specs.Kinds.{isKind, withParameters, easingFrom}
+use Rattle.words.specs.Kinds.{isKind, easingFrom}
 use Rattle.words.specs.Modes.{isMode, loopFrom}
 use Rattle.words.specs.Tracks.{easingIn, loopIn, blanks, knownKinds, knownTrack, frameFrom, framesFrom, trackFrom}
 use Rattle.words.specs.Sampling.{easingFits, clockKnown, quickOf}
@@ -67,7 +68,7 @@ module _ (w : LaxTrack) (fit : w .count ≤ length (w .frames)) (most : w .count
   read-long = rw (all-places (w .count) most) (omega (arith, length-append (map frameFrom (take (w .count) (w .frames))) (drop (w .count) blanks), front-length))
 
   pub frame-at : (j : ℕ) → j < w .count → getD (framesRead w) j noFrame ≡ frameFrom (getD (w .frames) j noWords)
-  unfolding framesFrom frameFrom easingFrom withParameters
+  unfolding framesFrom frameFrom easingFrom withParams
   frame-at j h =
       rw (all-places (w .count) most, List·getD-append (map frameFrom (take (w .count) (w .frames))) (drop (w .count) blanks) noFrame j (omega (arith, front-length)))
       (List·getD-map frameFrom (take (w .count) (w .frames)) j noWords ∙ rw (getD-take (w .count) (w .frames) j noWords h))

@@ -13,4 +13,4 @@ within-spec =
     (λ c κs. search needs)
     (λ c κs. search needs)
     (λ c κs. search needs)
-    (λ c. simp (c .before .before .before .before .is-finite .ensures, c .before .before .before .size .ensures, c .before .before .is-finite2 .ensures, c .before .size2 .ensures)))
+    (λ c. simp (c .before .before .before .before .before .is-finite .ensures, c .before .before .before .before .size .ensures, c .before .before .before .is-finite2 .ensures, c .before .before .size2 .ensures)))

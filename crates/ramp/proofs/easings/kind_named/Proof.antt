@@ -5,10 +5,10 @@ use Rattle.ramp.proofs.easings.kind_named.Statement.{statement}
 use Rattle.ramp.proofs.easings.kind_named.Tie as tie
 
 abbrev Inv-loop : tie.InvT-loop
-Inv-loop text word kind₀ kind = kind ≤ 38
+Inv-loop text word many kind₀ kind = kind ≤ many
 
 abbrev μ-loop : tie.MeasureT-loop
-μ-loop text word kind₀ kind = 38 - kind
+μ-loop text word many kind₀ kind = many - kind
 
 pub kind-named-spec : {M : Type 1} → statement M
 kind-named-spec =

@@ -1,50 +1,24 @@
--- `easing_of` meets its contract: each arm is told its number. Assumes nothing.
-use Rattle.words.specs.Kinds.{withParameters, easingFrom}
-use Rattle.words.proofs.Rest.{none-left}
+-- `easing_of` meets its contract, by what its callees ensure. Assumes nothing.
+use borrow.Author.Needs.{needs}
+use borrow.Author.Tests.{lt-ltb, le-ltb}
+use mathlib.Core.Bool.{true, false}
+use mathlib.Core.Path.{_≡_}
+use lib.ListN.{length}
+use Rattle.easing.specs.Kinds.{allNamed}
+use Rattle.words.specs.Kinds.{isKind, easingFrom}
 use Rattle.words.proofs.kinds.easing_of.Statement.{statement}
 use Rattle.words.proofs.kinds.easing_of.Tie as tie
 
 pub easing-of-spec : {M : Type 1} → statement M
-unfolding easingFrom withParameters
+unfolding easingFrom
 easing-of-spec =
     tie.close
     (tie.spec
-    (λ c. simp (c .match .keys1))
-    (λ c. simp (c .match .keys2))
-    (λ c. simp (c .match .keys3))
-    (λ c. simp (c .match .keys4))
-    (λ c. simp (c .match .keys5))
-    (λ c. simp (c .match .keys6))
-    (λ c. simp (c .match .keys7))
-    (λ c. simp (c .match .keys8))
-    (λ c. simp (c .match .keys9))
-    (λ c. simp (c .match .keys10))
-    (λ c. simp (c .match .keys11))
-    (λ c. simp (c .match .keys12))
-    (λ c. simp (c .match .keys13))
-    (λ c. simp (c .match .keys14))
-    (λ c. simp (c .match .keys15))
-    (λ c. simp (c .match .keys16))
-    (λ c. simp (c .match .keys17))
-    (λ c. simp (c .match .keys18))
-    (λ c. simp (c .match .keys19))
-    (λ c. simp (c .match .keys20))
-    (λ c. simp (c .match .keys21))
-    (λ c. simp (c .match .keys22))
-    (λ c. simp (c .match .keys23))
-    (λ c. simp (c .match .keys24))
-    (λ c. simp (c .match .keys25))
-    (λ c. simp (c .match .keys26))
-    (λ c. simp (c .match .keys27))
-    (λ c. simp (c .match .keys28))
-    (λ c. simp (c .match .keys29))
-    (λ c. simp (c .match .keys30))
-    (λ c. simp (c .match .keys31))
-    (λ c. simp (c .match .keys32))
-    (λ c. simp (c .match .keys33))
-    (λ c. simp (c .match .keys34))
-    (λ c. simp (c .match .keys35))
-    (λ c. simp (c .match .keys36))
-    (λ c. simp (c .match .keys37))
-    (λ c. simp (c .match .keys38))
-    (λ c. simp (none-left 38 _ (c .match .rest))))
+    (λ c κs. search needs)
+    (λ c κs. search needs)
+    (λ c.
+    let known : isKind (c .before .before .before .before .args .w .kind) ≡ true = lt-ltb _ (length allNamed) (c .before .before .if1 .taken) in
+    simp (c .of-number .ensures, c .before .new .ensures, known))
+    (λ c.
+    let unknown : isKind (c .before .before .args .w .kind) ≡ false = le-ltb _ (length allNamed) (c .if1 .left) in
+    simp unknown))

@@ -1,5 +1,6 @@
 -- `apply` meets its contract: each arm is told its kind, at which the definition computes to what the arm's curve ensures. Assumes nothing.
 use borrow.Author.Needs.{needs}
+use borrow.Author.Tests.{not-true}
 use mathlib.Core.Bool.{Bool, true, false, not}
 use mathlib.Core.Path.{_≡_, refl, sym, subst⁻¹, _∙_, ap}
 use lib.Ieee.{Float}
@@ -13,9 +14,9 @@ use Rattle.easing.specs.declared.params.Params.{Params}
 use Rattle.easing.specs.declared.answers.Eased.{Eased}
 use Rattle.easing.specs.declared.answers.Eased.the-variants.{Value, Refused}
 use Rattle.easing.specs.Kinds.{curveOf, suppliedOf}
-use Rattle.easing.specs.Params.{noParams, paramsOf, withinOf}
+use Rattle.easing.specs.Params.{noParams, paramsOf, withParams, withinOf}
 use Rattle.easing.specs.Apply.{limitedOf, searchOf, easedAt, applyOf}
-use Rattle.easing.proofs.Tags.{among, twelve, told, by-tag}
+use Rattle.easing.proofs.Tags.{twelve, by-tag}
 use Rattle.easing.proofs.Answering.{no-number, not-supplied, bare, with-params}
 use Rattle.easing.proofs.kinds.Easing.apply.Statement.{statement}
 use Rattle.easing.proofs.kinds.Easing.apply.Tie as tie
@@ -46,7 +47,7 @@ module _ (b : tie.After-clamp01) where
     limited = with-params self t _ (b .before .before .is-nan .ensures) (b .before .if1 .left) u (b .clamp01 .ensures) x e
 
 pub apply-spec : {M : Type 1} → statement M
-unfolding curveOf paramsOf searchOf
+unfolding curveOf suppliedOf paramsOf withParams searchOf
 apply-spec =
     tie.close
     (tie.spec
@@ -167,4 +168,4 @@ apply-spec =
     (λ c. limited (c .before .before .before .before .before .before .before .before) _ (c .before .before .before .before .before .before .self2 .given .1) _ _ _ _ _ (c .before .plain23 .ensures ∙ ap plainOf (c .before .before .steps .ensures)) (c .before .before .before .before .params-of2 .ensures) (c .before .before .before .within2 .ensures) (c .limited2 .ensures) (λ fine. refl))
     (λ c. limited (c .before .before .before .before .before .before .before .before) _ (c .before .before .before .before .before .before .self3 .given .1) _ _ _ _ _ (c .before .plain24 .ensures ∙ ap plainOf (c .before .before .slow-mo .ensures)) (c .before .before .before .before .params-of3 .ensures) (c .before .before .before .within3 .ensures) (c .limited3 .ensures) (λ fine. refl))
     (λ c. limited (c .before .before .before .before .before .before .before .before) _ (c .before .before .before .before .before .before .self4 .given .1) _ _ _ _ _ (c .before .plain25 .ensures ∙ ap plainOf (c .before .before .custom-bounce .ensures)) (c .before .before .before .before .params-of4 .ensures) (c .before .before .before .within4 .ensures) (c .limited4 .ensures) (λ fine. refl))
-    (λ c. none (c .before) (told (c .before .before .before .before .args .self) .supplied ∙ ap not (by-tag (among twelve) twelve (c .before .before .before .before .args .self) tt (c .match .keys27)))))
+    (λ c. none (c .before) (not-true _ (by-tag (λ e. not (suppliedOf e)) twelve (c .before .before .before .before .args .self) tt (c .match .keys27)))))

@@ -10,7 +10,7 @@ abbrev Rest : ℕ → ℕ → Type 0
 Rest zero x = Unit {0}
 Rest (suc k) x = Rest k x × (x ≡ k → ⊥)
 
-at-least : (k x : ℕ) → Rest k x → k ≤ x
+pub at-least : (k x : ℕ) → Rest k x → k ≤ x
 at-least zero x r = omega arith
 at-least (suc k) x (r, h) = let a : k ≤ x = at-least k x r in omega (arith, h)
 
