@@ -15,5 +15,8 @@ lax-track-values-at-spec =
     (λ c κs. search needs)
     (λ c κs. search needs)
     (λ c. search needs)
-    (λ c. ?)
-    (λ c. ?))
+    (λ c.
+    let f = c .before .before .before .fill-values .ensures in
+    let b = c .before .before .before .before .before .before .before in
+    rw (← (b .is-known .ensures), c .before .before .before .before .before .before .if1 .taken, c .filled-words .ensures, f .0, ← (c .before .before .before .before .before .track-of .ensures)) (refl, f .1))
+    (λ c. rw (← (c .before .is-known .ensures), c .if1 .left) (refl, refl)))
