@@ -371,6 +371,9 @@ lax_track_changed lax_track_push(lax_track t, float time, float value);
 /* The same with an easing. Refuses 2 and 3 for it, and as lax_track_push. */
 lax_track_changed lax_track_push_eased(lax_track t, float time, float value, lax_easing e);
 
+/* The same with a frame, whose time may be -0. Refuses as lax_track_push_eased. */
+lax_track_changed lax_track_push_frame(lax_track t, lax_keyframe frame);
+
 /* Another mode. Clears complete, keeps elapsed and loop_count. Refuses 11 where the passes or the
  * total is beyond its limit. */
 lax_track_changed lax_track_looping(lax_track t, lax_loop mode);

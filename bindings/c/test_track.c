@@ -134,6 +134,47 @@ static void pushes_refuse(void)
     CHECK(kept(lax_track_push_eased(t, NAN, 1.0f, kind(38)), LAX_UNKNOWN_WORD, t));
 }
 
+/* Whether a frame's push gives this number, and what the push of its parts gives. */
+static int alike(lax_track t, float time, float value, lax_easing e, uint32_t number)
+{
+    lax_track_changed parts = lax_track_push_eased(t, time, value, e), whole;
+    lax_keyframe frame;
+    frame.time = time;
+    frame.value = value;
+    frame.easing = e;
+    whole = lax_track_push_frame(t, frame);
+    return whole.number == number && memcmp(&whole, &parts, sizeof whole) == 0;
+}
+
+static void pushes_of_frames(void)
+{
+    lax_track t = pair(LAX_ONCE, 0), wrong = t;
+    lax_keyframe frame = ladder(2).frames[1];
+    t.frames[0].easing.c = 5.0f; /* Linear has no use for it: a refusal keeps it */
+    t.frames[5].value = NAN;     /* behind the count */
+    t.complete = 7;
+    wrong.elapsed = -1.0f;
+    CHECK(alike(t, 1.0f, 5.0f, steps(4), LAX_OK));
+    CHECK(alike(t, 2.0f, 5.0f, bezier(0.25f, 0.1f, 0.25f, 1.0f), LAX_OK)); /* replaces */
+    CHECK(alike(t, -0.0f, 5.0f, kind(LAX_EASE_IN_QUAD), LAX_OK));
+    CHECK(alike(ladder(64), 63.0f, 5.0f, steps(4), LAX_OK));
+    CHECK(alike(wrong, NAN, 5.0f, kind(LAX_WIGGLE), LAX_RECORD_BREAKS_LIMIT));
+    CHECK(alike(t, NAN, 5.0f, kind(LAX_WIGGLE), LAX_EASING_NOT_SUPPLIED));
+    CHECK(alike(t, NAN, 5.0f, steps(65537), LAX_EASING_PARAMETER));
+    CHECK(alike(t, NAN, 5.0f, steps(4), LAX_TRACK_LIMIT));
+    CHECK(alike(t, 1.0f, BEYOND, steps(4), LAX_TRACK_LIMIT));
+    CHECK(alike(pair(LAX_TIMES, 65535), 257.0f, 5.0f, steps(4), LAX_TRACK_LIMIT));
+    CHECK(alike(ladder(64), 31.5f, 5.0f, steps(4), LAX_TRACK_FULL));
+    CHECK(alike(wrong, NAN, 5.0f, kind(38), LAX_UNKNOWN_WORD));
+    CHECK(lax_track_push_frame(t, frame).track.frames[1].value == 10.0f);
+    frame.time = -0.0f;
+    CHECK(!signbit(lax_track_push_frame(t, frame).track.frames[0].time));
+    frame.value = NAN;
+    CHECK(kept(lax_track_push_frame(t, frame), LAX_TRACK_LIMIT, t));
+    frame.easing.kind = 38;
+    CHECK(kept(lax_track_push_frame(t, frame), LAX_UNKNOWN_WORD, t));
+}
+
 /* In the modes with an end the last time, times the passes, has a limit. */
 static void totals(void)
 {
@@ -351,6 +392,7 @@ static void all_refuse(lax_track t, uint32_t number)
     float out[1] = {-1.0f};
     CHECK(kept(lax_track_push(t, NAN, NAN), number, t));
     CHECK(kept(lax_track_push_eased(t, NAN, NAN, kind(LAX_WIGGLE)), number, t));
+    CHECK(kept(lax_track_push_frame(t, t.frames[0]), number, t));
     CHECK(kept(lax_track_looping(t, mode), number, t));
     CHECK(not_found(lax_track_value_at(t, 1.0f), number));
     CHECK(not_found(lax_track_value(t), number));
@@ -416,6 +458,7 @@ void test_tracks(void)
     samples();
     fills();
     pushes_refuse();
+    pushes_of_frames();
     totals();
     reads();
     reads_of_few();

@@ -1,4 +1,4 @@
-//! The C interface, as include/laxombiit.h has it.
+//! What this crate calls of the C interface, as include/laxombiit.h has it.
 
 #[repr(C)]
 #[derive(Clone, Copy)]
@@ -215,8 +215,7 @@ extern "C" {
     ) -> LaxRun;
 
     pub fn lax_track_new() -> LaxTrack;
-    pub fn lax_track_push(t: LaxTrack, time: f32, value: f32) -> LaxTrackChanged;
-    pub fn lax_track_push_eased(t: LaxTrack, time: f32, value: f32, e: LaxEasing) -> LaxTrackChanged;
+    pub fn lax_track_push_frame(t: LaxTrack, frame: LaxKeyframe) -> LaxTrackChanged;
     pub fn lax_track_looping(t: LaxTrack, mode: LaxLoop) -> LaxTrackChanged;
     pub fn lax_track_value_at(t: LaxTrack, secs: f32) -> LaxFound;
     pub fn lax_track_value(t: LaxTrack) -> LaxFound;

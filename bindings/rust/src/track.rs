@@ -58,7 +58,7 @@ impl Track {
     /// ```
     /// use laxombiit::{Easing, Keyframe, Loop, Refusal, Track};
     ///
-    /// let frames = [(0.0, 0.0), (2.0, 8.0)].map(|(time, value)| Keyframe { time, value, easing: Easing::Linear });
+    /// let frames = [(0.0, 0.0), (2.0, 8.0)].map(|(time, value)| Keyframe::new(time, value, Easing::Linear));
     /// let mut track = Track::from_parts(&frames, 524_288.0, Loop::Forever, 262_144, false)?;
     /// assert_eq!(track.update(0.02), Err(Refusal::StepLost));
     /// # Ok::<(), Refusal>(())
@@ -99,14 +99,31 @@ impl Track {
     /// # Ok::<(), Refusal>(())
     /// ```
     pub fn push(&mut self, time: f32, value: f32) -> Result<&mut Track, Refusal> {
-        let a = unsafe { ffi::lax_track_push(self.words, time, value) };
-        self.take(a)
+        self.push_eased(time, value, Easing::Linear)
     }
 
     /// The same with an easing. Refused also: 2 for one without a curve, 3 for a parameter beyond
     /// its limit.
     pub fn push_eased(&mut self, time: f32, value: f32, easing: Easing) -> Result<&mut Track, Refusal> {
-        let a = unsafe { ffi::lax_track_push_eased(self.words, time, value, easing.words()) };
+        self.push_frame(Keyframe::new(time, value, easing))
+    }
+
+    /// The same with a frame, whose time may be -0. Refused as by `push_eased`.
+    ///
+    /// ```
+    /// use laxombiit::{Easing, Keyframe, Refusal, Track};
+    ///
+    /// let frame = Keyframe::new(0.0, 1.0, Easing::EaseInQuad);
+    /// let mut track = Track::new();
+    /// track.push_frame(frame)?.push(2.0, 9.0)?;
+    /// assert_eq!(track.frames().next(), Some(frame));
+    /// assert_eq!(track.value_at(1.0)?.value, 3.0);
+    /// let steps = Easing::Steps(65_537);
+    /// assert_eq!(track.push_frame(Keyframe { easing: steps, ..frame }).err(), Some(Refusal::EasingParameter));
+    /// # Ok::<(), Refusal>(())
+    /// ```
+    pub fn push_frame(&mut self, frame: Keyframe) -> Result<&mut Track, Refusal> {
+        let a = unsafe { ffi::lax_track_push_frame(self.words, frame.words()) };
         self.take(a)
     }
 
@@ -276,11 +293,16 @@ impl fmt::Debug for Track {
 }
 
 impl Keyframe {
+    /// A frame with these parts. Nothing is checked.
+    pub fn new(time: f32, value: f32, easing: Easing) -> Keyframe {
+        Keyframe { time, value, easing }
+    }
+
     fn words(&self) -> ffi::LaxKeyframe {
         ffi::LaxKeyframe { time: self.time, value: self.value, easing: self.easing.words() }
     }
 
     fn from_words(w: &ffi::LaxKeyframe) -> Keyframe {
-        Keyframe { time: w.time, value: w.value, easing: Easing::from_words(w.easing) }
+        Keyframe::new(w.time, w.value, Easing::from_words(w.easing))
     }
 }

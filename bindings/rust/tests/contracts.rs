@@ -24,7 +24,7 @@ fn left(mut t: Tween, call: impl Fn(&mut Tween) -> Result<(), Refusal>) -> Tween
 }
 
 fn track(frames: &[(f32, f32)], looping: Loop, elapsed: f32) -> Track {
-    let linear = |&(time, value): &(f32, f32)| Keyframe { time, value, easing: Easing::Linear };
+    let linear = |&(time, value): &(f32, f32)| Keyframe::new(time, value, Easing::Linear);
     let frames: Vec<Keyframe> = frames.iter().map(linear).collect();
     Track::from_parts(&frames, elapsed, looping, 3, false).unwrap()
 }

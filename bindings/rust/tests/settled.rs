@@ -21,9 +21,9 @@ fn ramp(elapsed: f32) -> Tween {
 /// 0 to 100 in a second, then on to 200 along another curve.
 fn track(elapsed: f32) -> Track {
     let frames = [
-        Keyframe { time: 0.0, value: 0.0, easing: STEEP },
-        Keyframe { time: 1.0, value: 100.0, easing: Easing::EaseInQuad },
-        Keyframe { time: 2.0, value: 200.0, easing: STEEP },
+        Keyframe::new(0.0, 0.0, STEEP),
+        Keyframe::new(1.0, 100.0, Easing::EaseInQuad),
+        Keyframe::new(2.0, 200.0, STEEP),
     ];
     Track::from_parts(&frames, elapsed, Loop::Once, 0, false).unwrap()
 }
@@ -101,8 +101,7 @@ fn tracks() {
     {
         assert_eq!(track(0.0).value_at(secs), plain(value));
     }
-    let one =
-        Track::from_parts(&[Keyframe { time: 1.0, value: 3.0, easing: STEEP }], 0.0, Loop::Once, 0, false);
+    let one = Track::from_parts(&[Keyframe::new(1.0, 3.0, STEEP)], 0.0, Loop::Once, 0, false);
     assert_eq!(one.unwrap().value_at(LOST), plain(3.0));
 }
 

@@ -9,7 +9,7 @@ const LIMIT: f32 = 16_777_216.0;
 const BEYOND: f32 = 16_777_218.0;
 
 fn linear(time: f32, value: f32) -> Keyframe {
-    Keyframe { time, value, easing: Easing::Linear }
+    Keyframe::new(time, value, Easing::Linear)
 }
 
 /// (0, 0) and (2, 8), with this on the clock.
@@ -48,6 +48,32 @@ fn push() {
     t.push_eased(0.0, 0.0, Easing::Steps(4)).unwrap();
     assert_eq!(t.value_at(0.25), plain(1.5));
     assert_eq!(t.frames().map(|k| k.easing).collect::<Vec<_>>(), [Easing::Steps(4), Easing::Linear]);
+}
+
+/// A frame is pushed as its parts are, and refused as they are.
+#[test]
+fn push_frame() {
+    let full = Track::from_parts(&ladder(64), 0.0, Loop::Once, 0, false).unwrap();
+    let cases = [
+        (pair(Loop::Once, 0.0), Keyframe::new(1.0, 5.0, Easing::Steps(4)), None),
+        (pair(Loop::Once, 0.0), Keyframe::new(2.0, 5.0, Easing::CubicBezier(0.25, 0.1, 0.25, 1.0)), None),
+        (pair(Loop::Once, 0.0), linear(-0.0, 5.0), None),
+        (full.clone(), linear(63.0, -1.0), None),
+        (pair(Loop::Once, -1.0), Keyframe::new(f32::NAN, 5.0, Easing::EaseInSine), Some(Refusal::RecordBreaksLimit)),
+        (pair(Loop::Once, 0.0), Keyframe::new(f32::NAN, 5.0, Easing::EaseInSine), Some(Refusal::EasingNotSupplied)),
+        (pair(Loop::Once, 0.0), Keyframe::new(f32::NAN, 5.0, Easing::Steps(65_537)), Some(Refusal::EasingParameter)),
+        (pair(Loop::Once, 0.0), linear(f32::NAN, 5.0), Some(Refusal::TrackLimit)),
+        (pair(Loop::Times(65_535), 0.0), linear(257.0, 5.0), Some(Refusal::TrackLimit)),
+        (full, linear(31.5, 0.0), Some(Refusal::TrackFull)),
+    ];
+    for (before, k, refusal) in cases {
+        let (mut whole, mut parts) = (before.clone(), before.clone());
+        assert_eq!(whole.push_frame(k).err(), refusal, "{k:?}");
+        assert_eq!(parts.push_eased(k.time, k.value, k.easing).err(), refusal, "{k:?}");
+        assert_eq!((&whole, refusal.is_some()), (&parts, whole == before), "{k:?}");
+        assert!(refusal.is_some() || whole.frames().any(|f| f == k), "{k:?}");
+        assert!(whole.frames().all(|f| f.time.is_sign_positive()), "{k:?}");
+    }
 }
 
 #[test]
@@ -242,8 +268,8 @@ fn broken() -> [Track; 12] {
         ([linear(0.0, 0.0), linear(LIMIT, 1.0)], 0.0, Loop::Times(2)),
         ([linear(0.0, f32::NAN), linear(1.0, 1.0)], 0.0, Loop::Once),
         ([linear(0.0, 0.0), linear(1.0, -BEYOND)], 0.0, Loop::Once),
-        ([linear(0.0, 0.0), Keyframe { easing: Easing::EaseInSine, ..linear(1.0, 1.0) }], 0.0, Loop::Once),
-        ([linear(0.0, 0.0), Keyframe { easing: Easing::Steps(65_537), ..linear(1.0, 1.0) }], 0.0, Loop::Once),
+        ([linear(0.0, 0.0), Keyframe::new(1.0, 1.0, Easing::EaseInSine)], 0.0, Loop::Once),
+        ([linear(0.0, 0.0), Keyframe::new(1.0, 1.0, Easing::Steps(65_537))], 0.0, Loop::Once),
         ([linear(0.0, 0.0), linear(1.0, 1.0)], -1.0, Loop::Once),
         ([linear(0.0, 0.0), linear(1.0, 1.0)], 0.0, Loop::PingPongTimes(65_536)),
     ];
@@ -257,6 +283,7 @@ fn a_record_beyond_its_limits_is_refused_by_every_call() {
         let before = format!("{t:?}");
         assert_eq!(t.push(f32::NAN, 0.0).err(), Some(four));
         assert_eq!(t.push_eased(0.0, 0.0, Easing::EaseInSine).err(), Some(four));
+        assert_eq!(t.push_frame(linear(f32::NAN, 0.0)).err(), Some(four));
         assert_eq!(t.looping(Loop::Times(65_536)).err(), Some(four));
         assert_eq!((t.value_at(1.0), t.value()), (Err(four), Err(four)));
         assert_eq!(t.values_at(&[1.0], &mut []), Err(four));

@@ -8,6 +8,7 @@ use Rattle.keyframe.specs.declared.types.Outcome.the-variants as outcome
 use Rattle.keyframe.specs.declared.types.Updated.{Updated}
 use Rattle.keyframe.specs.declared.types.Stepped.{Stepped}
 use Rattle.keyframe.specs.declared.types.Stepped.the-variants as stepped
+use Rattle.keyframe.specs.declared.types.Filled.{Filled}
 use Rattle.keyframe.specs.declared.types.Completion.{Completion}
 use Rattle.keyframe.specs.declared.types.Completion.the-variants as completion
 use Rattle.words.specs.declared.tracks.LaxTrack.{LaxTrack}
@@ -16,6 +17,7 @@ use Rattle.words.specs.Tracks.{trackWords}
 use Rattle.capi.specs.declared.answers.LaxFlag.{LaxFlag}
 use Rattle.capi.specs.declared.track_answers.LaxTrackChanged.{LaxTrackChanged}
 use Rattle.capi.specs.declared.track_answers.LaxTrackUpdated.{LaxTrackUpdated}
+use Rattle.capi.specs.declared.track_answers.LaxFilled.{LaxFilled}
 use Rattle.capi.specs.Answers.{noFlag, flagWords}
 
 -- w is the track that came
@@ -38,6 +40,9 @@ steppedBy w t (stepped.Refused r) = notStepped w (numberOf r)
 
 unfoldable pub trackUpdatedWords : LaxTrack → Updated → LaxTrackUpdated
 trackUpdatedWords w a = steppedBy w (a .track) (a .stepped)
+
+abbrev pub filledWords : Filled → LaxFilled
+filledWords f = record { filled = f .filled; unsettled = f .unsettled; number = f .refusal }
 
 unfoldable pub completionWords : Completion → LaxFlag
 completionWords (completion.Complete b) = flagWords b

@@ -7,19 +7,19 @@ use Rattle.frames.specs.Limits.{blank}
 use Rattle.keyframe.specs.declared.types.Track.{Track}
 use Rattle.keyframe.specs.Pushing.{newTrack, pushOf, loopingOf}
 use Rattle.keyframe.specs.Sampling.{valueAtOf, valueNow}
-use Rattle.keyframe.specs.Batch.{batchCount, batchNumber, batchOut, batchUnsettled}
+use Rattle.keyframe.specs.Batch.{batchOut, batchAnswer}
 use Rattle.keyframe.specs.Playback.{activeTimeOf, durationIn, playbackIn, progressOf, completeOf}
 use Rattle.keyframe.specs.Stepping.{resetOf, seekToOf, updateOf}
-use Rattle.words.specs.declared.kinds.LaxEasing.{LaxEasing}
-use Rattle.words.specs.declared.kinds.EasingRead.{EasingRead}
-use Rattle.words.specs.declared.kinds.EasingRead.the-variants as kind
 use Rattle.words.specs.declared.modes.LaxLoop.{LaxLoop}
 use Rattle.words.specs.declared.modes.LoopRead.{LoopRead}
 use Rattle.words.specs.declared.modes.LoopRead.the-variants as mode
+use Rattle.words.specs.declared.tracks.LaxKeyframe.{LaxKeyframe}
+use Rattle.words.specs.declared.tracks.FrameRead.{FrameRead}
+use Rattle.words.specs.declared.tracks.FrameRead.the-variants as frame
 use Rattle.words.specs.declared.tracks.LaxTrack.{LaxTrack}
-use Rattle.words.specs.Kinds.{unknownWord, easingFrom}
+use Rattle.words.specs.Kinds.{unknownWord}
 use Rattle.words.specs.Modes.{loopFrom}
-use Rattle.words.specs.Tracks.{knownTrack, trackFrom, frameWords, trackWords}
+use Rattle.words.specs.Tracks.{frameRead, knownTrack, trackFrom, frameWords, trackWords}
 use Rattle.capi.specs.declared.answers.LaxValue.{LaxValue}
 use Rattle.capi.specs.declared.answers.LaxFound.{LaxFound}
 use Rattle.capi.specs.declared.answers.LaxFlag.{LaxFlag}
@@ -27,7 +27,7 @@ use Rattle.capi.specs.declared.track_answers.LaxTrackChanged.{LaxTrackCh
 use Rattle.capi.specs.declared.track_answers.LaxTrackUpdated.{LaxTrackUpdated}
 use Rattle.capi.specs.declared.track_answers.LaxFilled.{LaxFilled}
 use Rattle.capi.specs.Answers.{noValue, noFound, foundWords, secondsWords, progressWords, noFlag}
-use Rattle.capi.specs.TrackAnswers.{untouched, trackChangedWords, notStepped, trackUpdatedWords, completionWords}
+use Rattle.capi.specs.TrackAnswers.{untouched, trackChangedWords, notStepped, trackUpdatedWords, filledWords, completionWords}
 
 -- the answer for a track that was read, or the one for words that are none
 abbrev pub onTrack : {A : Type 0} → LaxTrack → (Track → A) → A → A
@@ -37,12 +37,12 @@ onTrack w known unknown = unless (knownTrack w) unknown (known (trackFrom w))
 unfoldable pub laxTrackNew : LaxTrack
 laxTrackNew = trackWords (replicate 64 (frameWords blank)) newTrack
 
-abbrev pub pushed : LaxTrack → Float → Float → EasingRead → Track → LaxTrackChanged
-pushed w time value (kind.Known e) t = trackChangedWords w (pushOf t time value e)
-pushed w time value kind.Unknown t = untouched w unknownWord
+abbrev pub pushed : LaxTrack → FrameRead → Track → LaxTrackChanged
+pushed w (frame.Known k) t = trackChangedWords w (pushOf t k)
+pushed w frame.Unknown t = untouched w unknownWord
 
-unfoldable pub laxTrackPush : LaxTrack → Float → Float → LaxEasing → LaxTrackChanged
-laxTrackPush w time value e = onTrack w (pushed w time value (easingFrom e)) (untouched w unknownWord)
+unfoldable pub laxTrackPush : LaxTrack → LaxKeyframe → LaxTrackChanged
+laxTrackPush w k = onTrack w (pushed w (frameRead k)) (untouched w unknownWord)
 
 abbrev pub looped : LaxTrack → LoopRead → Track → LaxTrackChanged
 looped w (mode.Known l) t = trackChangedWords w (loopingOf t l)
@@ -84,8 +84,7 @@ laxTrackUpdate w step = onTrack w (λ t. trackUpdatedWords w (updateOf t step)) 
 -- many times at once, and the lent output afterwards
 unfoldable pub laxTrackFilled : LaxTrack → List Float → List Float → LaxFilled
 laxTrackFilled w times out =
-    onTrack w (λ t. record { filled = batchCount t times out; unsettled = batchUnsettled t times out; number = batchNumber t times out })
-    (record { filled = 0; unsettled = 0; number = unknownWord })
+    onTrack w (λ t. filledWords (batchAnswer t times out)) (record { filled = 0; unsettled = 0; number = unknownWord })
 
 unfoldable pub laxTrackOut : LaxTrack → List Float → List Float → List Float
 laxTrackOut w times out = onTrack w (λ t. batchOut t times out) out

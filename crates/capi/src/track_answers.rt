@@ -1,11 +1,12 @@
 // What the exported functions of a track answer. Where number is not 0 the track is the one that came.
 ghost use mathlib.Core.Path.{_≡_};
-ghost use Rattle.capi.specs.TrackAnswers.{untouched, trackChangedWords, notStepped, trackUpdatedWords, completionWords};
+ghost use Rattle.capi.specs.TrackAnswers.{untouched, trackChangedWords, notStepped, trackUpdatedWords, filledWords, completionWords};
 use crate::answers::LaxFlag;
 use crate::answers::flag_words;
 use crate::answers::no_flag;
 use keyframe::Changed;
 use keyframe::Completion;
+use keyframe::Filled;
 use keyframe::Outcome;
 use keyframe::Stepped;
 use keyframe::Updated;
@@ -84,6 +85,16 @@ pub fn track_updated_words(w: LaxTrack, a: Updated) -> LaxTrackUpdated
             }
         }
         Stepped::Refused(refusal) => not_stepped(w, refusal.number()),
+    }
+}
+
+pub fn filled_words(f: Filled) -> LaxFilled
+    ensures { λ r. ⌜ r ≡ filledWords f ⌝ }
+{
+    LaxFilled {
+        filled: f.filled,
+        unsettled: f.unsettled,
+        number: f.refusal,
     }
 }
 

@@ -2,6 +2,7 @@
 ghost use mathlib.Core.Path.{_≡_};
 ghost use Rattle.capi.specs.Tracks.{laxTrackNew, laxTrackPush, laxTrackLooping, laxTrackValueAt, laxTrackValue, laxTrackFilled, laxTrackOut, laxTrackActiveTime, laxTrackDuration, laxTrackPlaybackDuration, laxTrackProgress, laxTrackIsComplete, laxTrackReset, laxTrackSeekTo, laxTrackUpdate};
 ghost use Rattle.words.specs.Kinds.{easingWords};
+ghost use Rattle.words.specs.Tracks.{laxFrame};
 ghost use Rattle.easing.specs.declared.kinds.Easing.the-variants.{Linear};
 use crate::answers::LaxFlag;
 use crate::answers::LaxFound;
@@ -16,6 +17,7 @@ use crate::track_answers::LaxFilled;
 use crate::track_answers::LaxTrackChanged;
 use crate::track_answers::LaxTrackUpdated;
 use crate::track_answers::completion_words;
+use crate::track_answers::filled_words;
 use crate::track_answers::not_stepped;
 use crate::track_answers::track_changed_words;
 use crate::track_answers::track_updated_words;
@@ -25,19 +27,20 @@ use easing::Easing;
 use keyframe::Track;
 use units::Progress;
 use units::Seconds;
-use words::EasingRead;
+use words::FrameRead;
 use words::LaxEasing;
+use words::LaxKeyframe;
 use words::LaxLoop;
 use words::LaxTrack;
 use words::LoopRead;
 use words::Quick;
 use words::UNKNOWN_WORD;
-use words::easing_of;
 use words::easing_words;
 use words::frame_words;
 use words::is_known;
 use words::loop_of;
 use words::quick_value_at;
+use words::read_frame;
 use words::track_of;
 use words::track_words;
 
@@ -51,9 +54,12 @@ pub extern "C" fn lax_track_new() -> LaxTrack
 
 #[no_mangle]
 pub extern "C" fn lax_track_push(w: LaxTrack, time: f32, value: f32) -> LaxTrackChanged
-    ensures { λ r. ⌜ r ≡ laxTrackPush w time value (easingWords Linear) ⌝ }
+    ensures { λ r. ⌜ r ≡ laxTrackPush w (laxFrame time value (easingWords Linear)) ⌝ }
 {
-    lax_track_push_eased(w, time, value, easing_words(Easing::Linear))
+    lax_track_push_frame(
+        w,
+        LaxKeyframe::new(time, value, easing_words(Easing::Linear)),
+    )
 }
 
 #[no_mangle]
@@ -63,13 +69,20 @@ pub extern "C" fn lax_track_push_eased(
     value: f32,
     e: LaxEasing,
 ) -> LaxTrackChanged
-    ensures { λ r. ⌜ r ≡ laxTrackPush w time value e ⌝ }
+    ensures { λ r. ⌜ r ≡ laxTrackPush w (laxFrame time value e) ⌝ }
+{
+    lax_track_push_frame(w, LaxKeyframe::new(time, value, e))
+}
+
+#[no_mangle]
+pub extern "C" fn lax_track_push_frame(w: LaxTrack, k: LaxKeyframe) -> LaxTrackChanged
+    ensures { λ r. ⌜ r ≡ laxTrackPush w k ⌝ }
 {
     if is_known(w) {
-        let EasingRead::Known(easing) = easing_of(e) else {
+        let FrameRead::Known(frame) = read_frame(k) else {
             return untouched(w, UNKNOWN_WORD);
         };
-        return track_changed_words(w, track_of(w).push_eased(time, value, easing));
+        return track_changed_words(w, track_of(w).push_frame(frame));
     }
     untouched(w, UNKNOWN_WORD)
 }
@@ -197,14 +210,7 @@ pub extern "C" fn lax_track_values_at(w: LaxTrack, times: &[f32], out: &mut [f32
     ensures output { λ _. ⌜ now (out .exit) ≡ laxTrackOut w (now (times .entry)) (now (out .entry)) ⌝ }
 {
     if is_known(w) {
-        let mut number: u32 = 0;
-        let mut unsettled: usize = 0;
-        let filled = track_of(w).fill_values(times, out, &mut number, &mut unsettled);
-        return LaxFilled {
-            filled,
-            unsettled,
-            number,
-        };
+        return filled_words(track_of(w).fill_values(times, out));
     }
     LaxFilled {
         filled: 0,

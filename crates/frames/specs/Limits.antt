@@ -5,8 +5,13 @@ use lib.Ieee.{Float, nan, inf, fin, lt, le}
 use Rattle.math.specs.Rounded.{f32, zeroF, topF}
 use Rattle.math.specs.Range.{isValue}
 use Rattle.easing.specs.Apply.{fitsRecordOf}
+use Rattle.easing.specs.declared.kinds.Easing.{Easing}
 use Rattle.easing.specs.declared.kinds.Easing.the-variants.{Linear}
 use Rattle.frames.specs.declared.frame.Keyframe.{Keyframe}
+
+-- "Each frame carries a time, a value and one easing kind"
+abbrev pub frameOf : Float → Float → Easing → Keyframe
+frameOf time value e = record { time = time; value = value; easing = e }
 
 -- the sign is clear
 abbrev pub isPlus : Float → Bool
@@ -36,8 +41,8 @@ framesWithin l = framesAfter beforeAll l
 
 -- what a place holds that never had a frame
 abbrev pub blank : Keyframe
-blank = record { time = zeroF; value = zeroF; easing = Linear }
+blank = frameOf zeroF zeroF Linear
 
 -- what stands past the end of a list, for `getD`
 abbrev pub noFrame : Keyframe
-noFrame = record { time = nan; value = nan; easing = Linear }
+noFrame = frameOf nan nan Linear

@@ -1,6 +1,6 @@
-// The limits of a frame, and the frame that stands where there is none.
+// A frame of its parts, its limits, and the frame that stands where there is none.
 ghost use mathlib.Core.Path.{_≡_};
-ghost use Rattle.frames.specs.Limits.{isTime, frameWithin, blank};
+ghost use Rattle.frames.specs.Limits.{frameOf, isTime, frameWithin, blank};
 use crate::frame::Keyframe;
 use easing::Easing;
 
@@ -15,6 +15,17 @@ pub fn is_time(t: f32) -> bool
 }
 
 impl Keyframe {
+    // Nothing is tested.
+    pub fn new(time: f32, value: f32, easing: Easing) -> Keyframe
+        ensures { λ r. ⌜ r ≡ frameOf time value easing ⌝ }
+    {
+        Keyframe {
+            time,
+            value,
+            easing,
+        }
+    }
+
     pub fn is_within_limits(self) -> bool
         ensures { λ r. ⌜ r ≡ frameWithin self ⌝ }
     {
@@ -27,9 +38,5 @@ impl Keyframe {
 pub fn blank() -> Keyframe
     ensures { λ r. ⌜ r ≡ blank ⌝ }
 {
-    Keyframe {
-        time: 0.0,
-        value: 0.0,
-        easing: Easing::Linear,
-    }
+    Keyframe::new(0.0, 0.0, Easing::Linear)
 }

@@ -9,12 +9,13 @@ use lib.ListN.{length, getD, drop, length-map, List·getD-append}
 use lib.Seq.{getD-append-add, getD-drop}
 use lib.Ieee.{Float, nan}
 use borrow.Author.Tests.{lt-ltb, le-ltb, le-leb, lt-leb, leb-true}
+use Rattle.refusal.specs.declared.Refusal.{Refusal}
 use Rattle.refusal.specs.declared.Refusal.the-variants.{RecordBreaksLimit, NoFrames, OutputTooShort}
 use Rattle.refusal.specs.Number.{numberOf}
 use Rattle.frames.specs.Sampling.{sampleOf, filledOf, unsettledOf}
 use Rattle.keyframe.specs.declared.types.Track.{Track}
 use Rattle.keyframe.specs.Limits.{framesIn, withinOf}
-use Rattle.keyframe.specs.Batch.{batchNumber, batchOut, batchCount, batchUnsettled, BatchAt, BatchBehind, BatchRefused}
+use Rattle.keyframe.specs.Batch.{batchNumber, batchOut, batchCount, batchUnsettled, batchAnswer, noneFilled, BatchAt, BatchBehind, BatchRefused}
 
 module _ (t : Track) (times out : List Float) where
   pub number-broken : withinOf t ≡ false → numberOf RecordBreaksLimit ≡ batchNumber t times out
@@ -34,13 +35,13 @@ module _ (t : Track) (times out : List Float) where
     unfolding batchNumber
     number-taken c h = rw (w, lt-ltb 0 (t .count) (omega (arith, c)), le-leb (length times) (length out) h)
 
-  pub refused : (n : ℕ) → n ≡ batchNumber t times out → eqb n 0 ≡ false → (0 ≡ batchCount t times out) × ((out ≡ batchOut t times out) × ((n ≡ batchNumber t times out) × (0 ≡ batchUnsettled t times out)))
+  pub refused : (r : Refusal) → numberOf r ≡ batchNumber t times out → eqb (numberOf r) 0 ≡ false → (noneFilled r ≡ batchAnswer t times out) × (out ≡ batchOut t times out)
   unfolding batchCount batchOut batchUnsettled
-  refused n e z = (rw (← e, z), (rw (← e, z), (e, rw (← e, z))))
+  refused r e z = (rw (← e, z), rw (← e, z))
 
-  pub accepted : 0 ≡ batchNumber t times out → (length times ≡ batchCount t times out) × ((filledOf (framesIn t) times out ≡ batchOut t times out) × ((0 ≡ batchNumber t times out) × (unsettledOf (framesIn t) times ≡ batchUnsettled t times out)))
+  pub accepted : 0 ≡ batchNumber t times out → (record { filled = length times; unsettled = unsettledOf (framesIn t) times; refusal = 0 } ≡ batchAnswer t times out) × (filledOf (framesIn t) times out ≡ batchOut t times out)
   unfolding batchCount batchOut batchUnsettled
-  accepted e = (rw (← e), (rw (← e), (e, rw (← e))))
+  accepted e = (rw (← e), rw (← e))
 
 count-by : (a b c : Bool) (m n : ℕ) → leb m n ≡ c → cond (eqb (cond a (cond b (cond c 0 12) 10) 4) 0) m 0 ≤ n
 count-by false b c m n e = omega arith

@@ -1,7 +1,6 @@
 -- The cases of a push and of a change of mode. Assumes nothing.
 use mathlib.Core.Path.{_≡_}
 use mathlib.Core.Bool.{Bool, true, false}
-use lib.Ieee.{Float}
 use Rattle.math.proofs.Choice.{by-test}
 use Rattle.refusal.specs.declared.Refusal.{Refusal}
 use Rattle.refusal.specs.declared.Refusal.the-variants.{RecordBreaksLimit, EasingNotSupplied, EasingParameter, TrackLimit}
@@ -10,6 +9,7 @@ use Rattle.easing.specs.Kinds.{suppliedOf}
 use Rattle.easing.specs.Params as params
 use Rattle.easing.specs.Apply.{fitsRecordOf}
 use Rattle.loop_mode.specs.declared.Loop.{Loop}
+use Rattle.frames.specs.declared.frame.Keyframe.{Keyframe}
 use Rattle.frames.specs.Pushing.{putOf}
 use Rattle.keyframe.specs.declared.types.Track.{Track}
 use Rattle.keyframe.specs.declared.types.Changed.{Changed}
@@ -21,42 +21,42 @@ pub fits-params : (e : Easing) (b : Bool) → suppliedOf e ≡ true → fitsReco
 unfolding fitsRecordOf
 fits-params e b s h = rw s at h
 
-module _ (t : Track) (time value : Float) (e : Easing) where
-  pub push-broken : withinOf t ≡ false → refused t RecordBreaksLimit ≡ pushOf t time value e
+module _ (t : Track) (k : Keyframe) where
+  pub push-broken : withinOf t ≡ false → refused t RecordBreaksLimit ≡ pushOf t k
   unfolding pushOf
   push-broken w = rw w
 
   module _ (w : withinOf t ≡ true) where
-    pub push-not-supplied : suppliedOf e ≡ false → refused t EasingNotSupplied ≡ pushOf t time value e
+    pub push-not-supplied : suppliedOf (k .easing) ≡ false → refused t EasingNotSupplied ≡ pushOf t k
     unfolding pushOf
     push-not-supplied s = rw (w, s)
 
-    module _ (s : suppliedOf e ≡ true) where
-      pub push-parameter : params.withinOf (params.paramsOf e) ≡ false → refused t EasingParameter ≡ pushOf t time value e
+    module _ (s : suppliedOf (k .easing) ≡ true) where
+      pub push-parameter : params.withinOf (params.paramsOf (k .easing)) ≡ false → refused t EasingParameter ≡ pushOf t k
       unfolding pushOf
       push-parameter p = rw (w, s, p)
 
-      module _ (p : params.withinOf (params.paramsOf e) ≡ true) where
-        pub push-limit : takesOf t (storedOf time) value ≡ false → refused t TrackLimit ≡ pushOf t time value e
+      module _ (p : params.withinOf (params.paramsOf (k .easing)) ≡ true) where
+        pub push-limit : takesOf t (storedOf k) ≡ false → refused t TrackLimit ≡ pushOf t k
         unfolding pushOf
-        push-limit k = rw (w, s, p, k)
+        push-limit h = rw (w, s, p, h)
 
-        pub push-placed : takesOf t (storedOf time) value ≡ true → placedOf t (putOf (t .frames) (t .count) (record { time = storedOf time; value = value; easing = e })) ≡ pushOf t time value e
+        pub push-placed : takesOf t (storedOf k) ≡ true → placedOf t (putOf (t .frames) (t .count) (storedOf k)) ≡ pushOf t k
         unfolding pushOf
-        push-placed k = rw (w, s, p, k)
+        push-placed h = rw (w, s, p, h)
 
 -- a push is refused, or the frame is placed
-pub by-push : (C : Changed → Type 0) (t : Track) (time value : Float) (e : Easing) → ((r : Refusal) → C (refused t r))
-    → (suppliedOf e ≡ true → params.withinOf (params.paramsOf e) ≡ true → takesOf t (storedOf time) value ≡ true
-    → C (placedOf t (putOf (t .frames) (t .count) (record { time = storedOf time; value = value; easing = e })))) → C (pushOf t time value e)
+pub by-push : (C : Changed → Type 0) (t : Track) (k : Keyframe) → ((r : Refusal) → C (refused t r))
+    → (suppliedOf (k .easing) ≡ true → params.withinOf (params.paramsOf (k .easing)) ≡ true → takesOf t (storedOf k) ≡ true
+    → C (placedOf t (putOf (t .frames) (t .count) (storedOf k)))) → C (pushOf t k)
 unfolding pushOf
-by-push C t time value e refuse place =
+by-push C t k refuse place =
     by-test C (withinOf t) _ _
     (λ _.
-    by-test C (suppliedOf e) _ _
+    by-test C (suppliedOf (k .easing)) _ _
     (λ s.
-    by-test C (params.withinOf (params.paramsOf e)) _ _
-    (λ p. by-test C (takesOf t (storedOf time) value) _ _ (λ k. place s p k) (λ _. refuse TrackLimit))
+    by-test C (params.withinOf (params.paramsOf (k .easing))) _ _
+    (λ p. by-test C (takesOf t (storedOf k)) _ _ (λ h. place s p h) (λ _. refuse TrackLimit))
     (λ _. refuse EasingParameter))
     (λ _. refuse EasingNotSupplied))
     (λ _. refuse RecordBreaksLimit)

@@ -178,14 +178,13 @@ module _ (t : Track) (fine : Fine t) (k : Keyframe) (good : frameWithin k ≡ tr
 
 pub push-within : PushWithin
 unfolding takesOf frameWithin fitsRecordOf
-push-within t fine time value e =
-    by-push (λ (r : Changed). Fine (r .track)) t time value e (λ _. fine)
-    (λ s p h. placed-within t fine (record { time = storedOf time; value = value; easing = e }) (framed (storedOf time) h s p) (fitting (storedOf time) h))
+push-within t fine k =
+    by-push (λ (r : Changed). Fine (r .track)) t k (λ _. fine) (λ s p h. placed-within t fine (storedOf k) (framed (storedOf k) h s p) (fitting (storedOf k) h))
   where
-    framed : (x : Float) → takesOf t x value ≡ true → suppliedOf e ≡ true → params.withinOf (params.paramsOf e) ≡ true → frameWithin (record { time = x; value = value; easing = e }) ≡ true
-    framed x h s p =
-        let a = and-both (isTime x && isValue value) (modeFits (t .looping) (laterOf (baseOf t) x)) h .0 in
-        rw (and-both (isTime x) (isValue value) a .0, and-both (isTime x) (isValue value) a .1, s, p)
+    framed : (f : Keyframe) → takesOf t f ≡ true → suppliedOf (f .easing) ≡ true → params.withinOf (params.paramsOf (f .easing)) ≡ true → frameWithin f ≡ true
+    framed f h s p =
+        let a = and-both (isTime (f .time) && isValue (f .value)) (modeFits (t .looping) (laterOf (baseOf t) (f .time))) h .0 in
+        rw (and-both (isTime (f .time)) (isValue (f .value)) a .0, and-both (isTime (f .time)) (isValue (f .value)) a .1, s, p)
 
-    fitting : (x : Float) → takesOf t x value ≡ true → modeFits (t .looping) (laterOf (baseOf t) x) ≡ true
-    fitting x h = and-both (isTime x && isValue value) (modeFits (t .looping) (laterOf (baseOf t) x)) h .1
+    fitting : (f : Keyframe) → takesOf t f ≡ true → modeFits (t .looping) (laterOf (baseOf t) (f .time)) ≡ true
+    fitting f h = and-both (isTime (f .time) && isValue (f .value)) (modeFits (t .looping) (laterOf (baseOf t) (f .time))) h .1

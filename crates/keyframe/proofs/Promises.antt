@@ -46,13 +46,13 @@ unfolding lt ofBits
 zero-below = refl
 
 -- a time that equals 0 is sampled as +0 is
-stored-same : (l : List Keyframe) (time : Float) → sampleOf l (storedOf time) ≡ sampleOf l time
+stored-same : (l : List Keyframe) (k : Keyframe) → sampleOf l (storedOf k .time) ≡ sampleOf l (k .time)
 unfolding sampleOf
-stored-same l time = ap (λ (x : Float). cond (eqb (length l) 1) (ownOf (firstOf l)) (atOf l (cutOf x (lastOf l .time)))) (maxed (eq time zeroF) refl)
+stored-same l k = ap (λ (x : Float). cond (eqb (length l) 1) (ownOf (firstOf l)) (atOf l (cutOf x (lastOf l .time)))) (maxed (k .time) (eq (k .time) zeroF) refl)
   where
-    maxed : (b : Bool) → eq time zeroF ≡ b → maxZeroOf (cond b zeroF time) ≡ maxZeroOf time
-    maxed false e = refl
-    maxed true e = rw (not-lt-of-le time zeroF (equal-le time zeroF (subst⁻¹ T e tt)), zero-below)
+    maxed : (x : Float) (b : Bool) → eq x zeroF ≡ b → maxZeroOf (cond b zeroF x) ≡ maxZeroOf x
+    maxed x false e = refl
+    maxed x true e = rw (not-lt-of-le x zeroF (equal-le x zeroF (subst⁻¹ T e tt)), zero-below)
 
 -- where a push is done, a sample at its time equals the value that was pushed
 abbrev Sampled : Float → Float → Changed → Type 0
@@ -77,11 +77,10 @@ placed-sampled t k F =
         (subst (λ (x : Keyframe). eq (sampleOf l (x .time) .value) (x .value) ≡ true) e (sample-own l (rw s at fine) p h (subst⁻¹ (λ (x : Keyframe). T (fits binary32 (x .value))) e F)))
 
 pub push-sampled : PushSampled
-push-sampled t fine time value e F h = subst (λ (f : Found). eq (f .value) value ≡ true) (stored-same (framesIn (pushOf t time value e .track)) time) (sampled h (push-within t fine time value e))
+push-sampled t fine k F h = subst (λ (f : Found). eq (f .value) (k .value) ≡ true) (stored-same (framesIn (pushOf t k .track)) k) (sampled h (push-within t fine k))
   where
-    sampled : Sampled (storedOf time) value (pushOf t time value e)
-    sampled =
-        by-push (Sampled (storedOf time) value) t time value e (λ r h _. never r h) (λ _ _ _. placed-sampled t (record { time = storedOf time; value = value; easing = e }) F)
+    sampled : Sampled (storedOf k .time) (k .value) (pushOf t k)
+    sampled = by-push (Sampled (storedOf k .time) (k .value)) t k (λ r h _. never r h) (λ _ _ _. placed-sampled t (storedOf k) F)
 
 pub ascending : Ascending
 ascending t fine = rising beforeAll (framesIn t) (frames-fine t fine)

@@ -6,11 +6,13 @@ use mathlib.Core.List.{List}
 use lib.Dec.{leb, ltb, eqb}
 use lib.ListN.{length, getD}
 use lib.Ieee.{Float, nan}
+use Rattle.refusal.specs.declared.Refusal.{Refusal}
 use Rattle.refusal.specs.declared.Refusal.the-variants.{RecordBreaksLimit, NoFrames, OutputTooShort}
 use Rattle.refusal.specs.Number.{numberOf}
 use Rattle.refusal.specs.Refusing.{unless}
 use Rattle.frames.specs.Sampling.{sampleOf, filledOf, unsettledOf}
 use Rattle.keyframe.specs.declared.types.Track.{Track}
+use Rattle.keyframe.specs.declared.types.Filled.{Filled}
 use Rattle.keyframe.specs.Limits.{framesIn, withinOf}
 
 -- "The refusal number, 0 for none": 4, 10, 12
@@ -32,6 +34,14 @@ batchCount t times out = unless (eqb (batchNumber t times out) 0) 0 (length time
 -- Request 1: "The batch writes how many of its samples weren't into one more lent number, 0 when refused; document 01's "nothing else" gives way there"
 unfoldable pub batchUnsettled : Track → List Float → List Float → ℕ
 batchUnsettled t times out = unless (eqb (batchNumber t times out) 0) 0 (unsettledOf (framesIn t) times)
+
+-- what is answered beside the lent output, and where the call is refused
+abbrev pub batchAnswer : Track → List Float → List Float → Filled
+batchAnswer t times out =
+    record { filled = batchCount t times out; unsettled = batchUnsettled t times out; refusal = batchNumber t times out }
+
+abbrev pub noneFilled : Refusal → Filled
+noneFilled r = record { filled = 0; unsettled = 0; refusal = numberOf r }
 
 -- "its promise at each index": an accepted batch has the sample at each time
 abbrev pub BatchAt : Type 0

@@ -6,8 +6,8 @@ use lib.Dec.{T}
 use lib.ListN.{length, getD}
 use lib.Ieee.{Float, binary32, fits, lt, le, eq}
 use Rattle.math.specs.Range.{isFinite}
-use Rattle.easing.specs.declared.kinds.Easing.{Easing}
 use Rattle.loop_mode.specs.declared.Loop.{Loop}
+use Rattle.frames.specs.declared.frame.Keyframe.{Keyframe}
 use Rattle.frames.specs.Limits.{noFrame}
 use Rattle.frames.specs.Sampling.{firstOf, lastOf, ownOf, sampleOf}
 use Rattle.keyframe.specs.declared.types.Track.{Track}
@@ -23,7 +23,7 @@ abbrev pub NewWithin : Type 0
 NewWithin = Fine newTrack
 
 abbrev pub PushWithin : Type 0
-PushWithin = (t : Track) → Fine t → (time value : Float) (e : Easing) → Fine (pushOf t time value e .track)
+PushWithin = (t : Track) → Fine t → (k : Keyframe) → Fine (pushOf t k .track)
 
 abbrev pub ModeWithin : Type 0
 ModeWithin = (t : Track) → Fine t → (m : Loop) → Fine (loopingOf t m .track)
@@ -46,8 +46,8 @@ Ascending =
 -- "Push at an equal time replaces": where a push is done, a sample at its time equals the value that was pushed
 abbrev pub PushSampled : Type 0
 PushSampled =
-    (t : Track) → Fine t → (time value : Float) (e : Easing) → T (fits binary32 value) → pushOf t time value e .outcome ≡ Done
-    → eq (sampleOf (framesIn (pushOf t time value e .track)) time .value) value ≡ true
+    (t : Track) → Fine t → (k : Keyframe) → T (fits binary32 (k .value)) → pushOf t k .outcome ≡ Done
+    → eq (sampleOf (framesIn (pushOf t k .track)) (k .time) .value) (k .value) ≡ true
 
 -- each sample is finite
 abbrev pub SampleReal : Type 0

@@ -9,14 +9,13 @@ use Rattle.math.specs.Range.{isValue}
 use Rattle.refusal.specs.declared.Refusal.{Refusal}
 use Rattle.refusal.specs.declared.Refusal.the-variants.{RecordBreaksLimit, EasingNotSupplied, EasingParameter, TrackLimit, TrackFull}
 use Rattle.refusal.specs.Refusing.{unless, when}
-use Rattle.easing.specs.declared.kinds.Easing.{Easing}
 use Rattle.easing.specs.Kinds.{suppliedOf}
 use Rattle.easing.specs.Params as params
 use Rattle.loop_mode.specs.declared.Loop.{Loop}
 use Rattle.loop_mode.specs.declared.Loop.the-variants.{Once}
 use Rattle.frames.specs.declared.frame.Keyframe.{Keyframe}
 use Rattle.frames.specs.declared.frame.Put.{Put}
-use Rattle.frames.specs.Limits.{isTime, blank}
+use Rattle.frames.specs.Limits.{frameOf, isTime, blank}
 use Rattle.frames.specs.Pushing.{putOf}
 use Rattle.keyframe.specs.declared.types.Track.{Track}
 use Rattle.keyframe.specs.declared.types.Changed.{Changed}
@@ -43,16 +42,16 @@ newTrack =
     }
 
 -- "a pushed -0 is taken and stored as +0, not refused"
-abbrev pub storedOf : Float → Float
-storedOf time = cond (eq time zeroF) zeroF time
+abbrev pub storedOf : Keyframe → Keyframe
+storedOf k = frameOf (cond (eq (k .time) zeroF) zeroF (k .time)) (k .value) (k .easing)
 
 -- the last time, once a frame at `time` is in
 abbrev pub laterOf : Float → Float → Float
 laterOf base time = cond (lt time base) base time
 
 -- "a pushed time or value breaks a frame limit, or a push .. would break a track's pass or total limit"
-unfoldable pub takesOf : Track → Float → Float → Bool
-takesOf t time value = isTime time && isValue value && modeFits (t .looping) (laterOf (baseOf t) time)
+unfoldable pub takesOf : Track → Keyframe → Bool
+takesOf t k = isTime (k .time) && isValue (k .value) && modeFits (t .looping) (laterOf (baseOf t) (k .time))
 
 -- "push and a change of mode clear completion and keep elapsed, loop_count and the places behind the frames"
 abbrev pub remade : Track → List Keyframe → ℕ → Loop → Track
@@ -79,13 +78,13 @@ placedOf t p =
     (changed (withFrames t (p .frames) (p .count)))
 
 -- the order of the refusals: 4, 2, 3, 11, 9
-unfoldable pub pushOf : Track → Float → Float → Easing → Changed
-pushOf t time value e =
+unfoldable pub pushOf : Track → Keyframe → Changed
+pushOf t k =
     unless (withinOf t) (refused t RecordBreaksLimit)
-    (unless (suppliedOf e) (refused t EasingNotSupplied)
-    (unless (params.withinOf (params.paramsOf e)) (refused t EasingParameter)
-    (unless (takesOf t (storedOf time) value) (refused t TrackLimit)
-    (placedOf t (putOf (t .frames) (t .count) (record { time = storedOf time; value = value; easing = e }))))))
+    (unless (suppliedOf (k .easing)) (refused t EasingNotSupplied)
+    (unless (params.withinOf (params.paramsOf (k .easing))) (refused t EasingParameter)
+    (unless (takesOf t (storedOf k)) (refused t TrackLimit)
+    (placedOf t (putOf (t .frames) (t .count) (storedOf k))))))
 
 -- 4, then 11: "a push or change of mode would break a track's pass or total limit"
 unfoldable pub loopingOf : Track → Loop → Changed

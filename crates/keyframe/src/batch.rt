@@ -2,46 +2,48 @@
 ghost use mathlib.Core.Path.{_≡_};
 ghost use lib.ListN.{take};
 ghost use denote.Ref.{ptr};
-ghost use Rattle.keyframe.specs.Batch.{batchNumber, batchOut, batchCount, batchUnsettled};
+ghost use Rattle.keyframe.specs.Batch.{batchNumber, batchOut, batchCount, batchUnsettled, batchAnswer, noneFilled};
+use crate::types::Filled;
 use crate::types::Track;
 use refusal::Refusal;
 
+fn none_filled(refusal: Refusal) -> Filled
+    ensures { λ r. ⌜ r ≡ noneFilled refusal ⌝ }
+{
+    Filled {
+        filled: 0,
+        unsettled: 0,
+        refusal: refusal.number(),
+    }
+}
+
 impl Track {
-    // How many places at the front of out are filled; the refusal's number goes into refusal, 0 for
-    // none; how many of the samples did not settle goes into unsettled, 0 where refused. Refused: 4;
-    // 10 where there are no frames; 12 where out is shorter than times.
-    pub fn fill_values(
-        self,
-        times: &[f32],
-        out: &mut [f32],
-        refusal: &mut u32,
-        unsettled: &mut usize,
-    ) -> usize
-        ensures count { λ r. ⌜ r ≡ batchCount self (now (times .entry)) (now (out .entry)) ⌝ }
+    // The value at each time goes into the front of out. Refused: 4; 10 where there are no frames; 12
+    // where out is shorter than times.
+    pub fn fill_values(self, times: &[f32], out: &mut [f32]) -> Filled
+        ensures answer { λ r. ⌜ r ≡ batchAnswer self (now (times .entry)) (now (out .entry)) ⌝ }
         ensures output { λ _. ⌜ now (out .exit) ≡ batchOut self (now (times .entry)) (now (out .entry)) ⌝ }
-        ensures number { λ _. ⌜ now (refusal .exit) ≡ batchNumber self (now (times .entry)) (now (out .entry)) ⌝ }
-        ensures unsettled { λ _. ⌜ now (unsettled .exit) ≡ batchUnsettled self (now (times .entry)) (now (out .entry)) ⌝ }
     {
-        *unsettled = 0;
         if !self.is_within_limits() {
-            *refusal = Refusal::RecordBreaksLimit.number();
-            return 0;
+            return none_filled(Refusal::RecordBreaksLimit);
         }
         if self.count == 0 {
-            *refusal = Refusal::NoFrames.number();
-            return 0;
+            return none_filled(Refusal::NoFrames);
         }
         if out.len() < times.len() {
-            *refusal = Refusal::OutputTooShort.number();
-            return 0;
+            return none_filled(Refusal::OutputTooShort);
         }
         let list = self.frames;
-        *unsettled = frames::fill(list, self.count, times, out);
-        *refusal = 0;
-        times.len()
+        let unsettled = frames::fill(list, self.count, times, out);
+        Filled {
+            filled: times.len(),
+            unsettled,
+            refusal: 0,
+        }
     }
 
-    // The filled front of out. What lies behind it is in `fill_values`.
+    // The filled front of out. What lies behind it is in `fill_values`. The refusal's number goes into
+    // refusal, 0 for none; how many of the samples did not settle goes into unsettled, 0 where refused.
     pub fn values_at<'a>(
         self,
         times: &[f32],
@@ -54,7 +56,9 @@ impl Track {
         ensures number { λ _. ⌜ now (refusal .exit) ≡ batchNumber self (now (times .entry)) (now (out .entry)) ⌝ }
         ensures unsettled { λ _. ⌜ now (unsettled .exit) ≡ batchUnsettled self (now (times .entry)) (now (out .entry)) ⌝ }
     {
-        let n = self.fill_values(times, out, refusal, unsettled);
-        &mut out[..n]
+        let answer = self.fill_values(times, out);
+        *refusal = answer.refusal;
+        *unsettled = answer.unsettled;
+        &mut out[..answer.filled]
     }
 }

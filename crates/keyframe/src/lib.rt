@@ -11,6 +11,7 @@ mod types;
 pub use limits::clock_fits;
 pub use types::Changed;
 pub use types::Completion;
+pub use types::Filled;
 pub use types::Outcome;
 pub use types::Stepped;
 pub use types::Track;

@@ -2,6 +2,7 @@
 ghost use mathlib.Core.Path.{_≡_};
 ghost use Prim.Native.Nat.{_≤_};
 ghost use Rattle.easing.specs.declared.kinds.Easing.the-variants.{Linear};
+ghost use Rattle.frames.specs.Limits.{frameOf};
 ghost use Rattle.frames.specs.Pushing.{putOf};
 ghost use Rattle.keyframe.specs.Pushing.{newTrack, storedOf, laterOf, takesOf, placedOf, pushOf, loopingOf};
 use crate::handed::refuse;
@@ -15,10 +16,13 @@ use frames::Keyframe;
 use loop_mode::Loop;
 use refusal::Refusal;
 
-fn stored(time: f32) -> f32
-    ensures { λ r. ⌜ r ≡ storedOf time ⌝ }
+// -0 as a time becomes +0.
+fn stored(k: Keyframe) -> Keyframe
+    ensures { λ r. ⌜ r ≡ storedOf k ⌝ }
 {
-    if time == 0.0 { 0.0 } else { time }
+    let mut u = k;
+    u.time = if k.time == 0.0 { 0.0 } else { k.time };
+    u
 }
 
 fn later(base: f32, time: f32) -> f32
@@ -27,14 +31,14 @@ fn later(base: f32, time: f32) -> f32
     if time < base { base } else { time }
 }
 
-// Whether a frame with this time and value, and the total with it in, are within their limits.
-fn takes(track: Track, time: f32, value: f32) -> bool
+// Whether the frame's time and value, and the total with it in, are within their limits.
+fn takes(track: Track, k: Keyframe) -> bool
     requires { ⌜ track .count ≤ 64 ⌝ }
-    ensures { λ r. ⌜ r ≡ takesOf track time value ⌝ }
+    ensures { λ r. ⌜ r ≡ takesOf track k ⌝ }
 {
     let looping = track.looping;
-    let base = later(last_time(track), time);
-    frames::is_time(time) & math::is_value(value) & mode_fits(looping, base)
+    let base = later(last_time(track), k.time);
+    frames::is_time(k.time) & math::is_value(k.value) & mode_fits(looping, base)
 }
 
 fn place(track: Track, k: Keyframe) -> Changed
@@ -73,37 +77,40 @@ impl Track {
         }
     }
 
-    // A Linear frame. Refused as `push_eased` refuses.
+    // A Linear frame. Refused as `push_frame` refuses.
     pub fn push(self, time: f32, value: f32) -> Changed
-        ensures { λ r. ⌜ r ≡ pushOf self time value Linear ⌝ }
+        ensures { λ r. ⌜ r ≡ pushOf self (frameOf time value Linear) ⌝ }
     {
-        self.push_eased(time, value, Easing::Linear)
+        self.push_frame(Keyframe::new(time, value, Easing::Linear))
+    }
+
+    // Refused as `push_frame` refuses.
+    pub fn push_eased(self, time: f32, value: f32, easing: Easing) -> Changed
+        ensures { λ r. ⌜ r ≡ pushOf self (frameOf time value easing) ⌝ }
+    {
+        self.push_frame(Keyframe::new(time, value, easing))
     }
 
     // A frame at the time of another replaces it. Refused: 4; 2 and 3 for the easing; 11 for the
     // time, the value or the total; 9 where the track is full.
-    pub fn push_eased(self, time: f32, value: f32, easing: Easing) -> Changed
-        ensures { λ r. ⌜ r ≡ pushOf self time value easing ⌝ }
+    pub fn push_frame(self, k: Keyframe) -> Changed
+        ensures { λ r. ⌜ r ≡ pushOf self k ⌝ }
     {
         if !self.is_within_limits() {
             return refuse(self, Refusal::RecordBreaksLimit);
         }
+        let easing = k.easing;
         if !easing.is_supplied() {
             return refuse(self, Refusal::EasingNotSupplied);
         }
         if !easing.fits_record() {
             return refuse(self, Refusal::EasingParameter);
         }
-        let t = stored(time);
-        if !takes(self, t, value) {
+        let frame = stored(k);
+        if !takes(self, frame) {
             return refuse(self, Refusal::TrackLimit);
         }
-        let k = Keyframe {
-            time: t,
-            value,
-            easing,
-        };
-        place(self, k)
+        place(self, frame)
     }
 
     // Refused: 4; 11 where the mode breaks the pass or the total limit.

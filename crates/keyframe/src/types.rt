@@ -42,6 +42,14 @@ pub struct Updated {
     pub stepped: Stepped,
 }
 
+// filled is how many places at the front of a lent output were written; unsettled, how many of them
+// hold a value that was not settled. refusal is the number, 0 for none.
+pub struct Filled {
+    pub filled: usize,
+    pub unsettled: usize,
+    pub refusal: u32,
+}
+
 pub enum Completion {
     Complete(bool),
     Refused(Refusal),

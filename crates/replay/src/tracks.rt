@@ -96,15 +96,8 @@ fn values_at(t: Track, words: [u32; 1024]) -> Row {
     let room = length_at(words, 1);
     let times = floats_at(words, 2);
     let mut values = marks();
-    let mut number: u32 = 0;
-    let mut unsettled: usize = 0;
-    let filled = t.fill_values(
-        &times[..length],
-        &mut values[..room],
-        &mut number,
-        &mut unsettled,
-    );
-    let p = put(put(nothing(), number), count_word(filled));
+    let answer = t.fill_values(&times[..length], &mut values[..room]);
+    let p = put(put(nothing(), answer.refusal), count_word(answer.filled));
     put_floats(p, values, room)
 }
 

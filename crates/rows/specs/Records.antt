@@ -7,7 +7,7 @@ use Rattle.words.specs.declared.modes.LaxLoop.{LaxLoop}
 use Rattle.words.specs.declared.tweens.LaxTween.{LaxTween}
 use Rattle.words.specs.declared.tracks.LaxKeyframe.{LaxKeyframe}
 use Rattle.words.specs.declared.tracks.LaxTrack.{LaxTrack}
-use Rattle.words.specs.Tracks.{placesIn}
+use Rattle.words.specs.Tracks.{laxFrame, placesIn}
 use Rattle.rows.specs.Words.{wordAt, floatAt, firsts}
 
 abbrev pub easingAt : List ℕ → ℕ → LaxEasing
@@ -42,7 +42,7 @@ tweenIn words =
     }
 
 unfoldable pub frameAt : List ℕ → ℕ → LaxKeyframe
-frameAt words at = record { time = floatAt words at; value = floatAt words (at + 1); easing = easingAt words (at + 2) }
+frameAt words at = laxFrame (floatAt words at) (floatAt words (at + 1)) (easingAt words (at + 2))
 
 -- 64 places whose words are all 0
 abbrev pub blanks : List LaxKeyframe

@@ -58,11 +58,11 @@ fn frame_at(words: [u32; 1024], at: usize) -> LaxKeyframe
     requires { ⌜ at < 1000 ⌝ }
     ensures { λ r. ⌜ r ≡ frameAt words at ⌝ }
 {
-    LaxKeyframe {
-        time: float_at(words, at),
-        value: float_at(words, at + 1),
-        easing: easing_at(words, at + 2),
-    }
+    LaxKeyframe::new(
+        float_at(words, at),
+        float_at(words, at + 1),
+        easing_at(words, at + 2),
+    )
 }
 
 // Places behind the first count are 0.

@@ -19,7 +19,7 @@ use Rattle.words.specs.declared.tracks.LaxTrack.{LaxTrack}
 use Rattle.words.proofs.tracks.LaxTrack.{the-type}
 use Rattle.words.proofs.tracks.LaxTrack.Laws.{the-laws}
 use Rattle.words.specs.Kinds.{words, isKind}
-use Rattle.words.specs.Tracks.{placesIn, knownKinds}
+use Rattle.words.specs.Tracks.{laxFrame, placesIn, knownKinds}
 
 -- at most 64 places are all looked at
 pub all-places : (n : ℕ) → n ≤ 64 → placesIn n ≡ n
@@ -31,7 +31,7 @@ words-long w vs h = sym (length-map (w .frames) _) ∙ owed the-type the-laws w 
 
 -- what stands past the end of a list, for `getD`
 abbrev pub noWords : LaxKeyframe
-noWords = record { time = nan; value = nan; easing = words 0 nan nan nan nan 0 }
+noWords = laxFrame nan nan (words 0 nan nan nan nan 0)
 
 module _ (ws : List LaxKeyframe) (n : ℕ) (fit : n ≤ length ws) where
   pub known-step : (i : ℕ) → i < n → knownKinds (drop i (take n ws)) ≡ isKind (getD ws i noWords .easing .kind) && knownKinds (drop (i + 1) (take n ws))

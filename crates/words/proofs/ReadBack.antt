@@ -22,9 +22,9 @@ use Rattle.words.specs.declared.tracks.LaxKeyframe.{LaxKeyframe}
 use Rattle.words.specs.declared.tweens.TweenRead.the-variants.{Known}
 use Rattle.words.specs.Kinds.{isKind, easingFrom, easingWords}
 use Rattle.words.specs.Modes.{isMode, loopFrom, loopWords, stateFrom, stateWord, flagWord}
-use Rattle.words.specs.Tracks.{blanks, knownKinds, knownTrack, frameFrom, framesFrom, trackFrom, frameWords, framesWords, trackWords}
+use Rattle.words.specs.Tracks.{blanks, knownKinds, knownTrack, frameFrom, frameRead, framesFrom, trackFrom, frameWords, framesWords, trackWords}
 use Rattle.words.specs.Tweens.{tweenFrom, tweenWords}
-use Rattle.words.specs.Promises.{EasingBack, LoopBack, StateBack, TweenBack, TrackKnown, TrackBack}
+use Rattle.words.specs.Promises.{EasingBack, LoopBack, StateBack, FrameBack, TweenBack, TrackKnown, TrackBack}
 use Rattle.words.proofs.Known.{all-places}
 
 -- a kind that is written is known
@@ -59,13 +59,17 @@ pub tween-back : TweenBack
 unfolding tweenFrom tweenWords
 tween-back t = rw (easing-back (t .easing), loop-back (t .looping), state-back (t .state), flag-back (t .«ping_pong_reverse»))
 
-frame-back : (k : Keyframe) → frameFrom (frameWords k) ≡ k
+parts-back : (k : Keyframe) → frameFrom (frameWords k) ≡ k
 unfolding frameFrom frameWords
-frame-back k = rw (easing-back (k .easing)) refl
+parts-back k = rw (easing-back (k .easing)) refl
+
+pub frame-back : FrameBack
+unfolding frameRead frameWords
+frame-back k = rw (kind-back (k .easing), parts-back k) refl
 
 frames-back : (l : List Keyframe) → map frameFrom (map frameWords l) ≡ l
 frames-back [] = refl
-frames-back (k ∷ l) = rw (frame-back k, frames-back l) refl
+frames-back (k ∷ l) = rw (parts-back k, frames-back l) refl
 
 kinds-back : (l : List Keyframe) → knownKinds (map frameWords l) ≡ true
 unfolding knownKinds frameWords

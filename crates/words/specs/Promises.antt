@@ -8,15 +8,17 @@ use Rattle.easing.specs.declared.kinds.Easing.{Easing}
 use Rattle.loop_mode.specs.declared.Loop.{Loop}
 use Rattle.tween.specs.declared.record.Tween.{Tween}
 use Rattle.tween.specs.declared.record.TweenState.{TweenState}
+use Rattle.frames.specs.declared.frame.Keyframe.{Keyframe}
 use Rattle.keyframe.specs.declared.types.Track.{Track}
 use Rattle.words.specs.declared.kinds.EasingRead.the-variants as kind
 use Rattle.words.specs.declared.modes.LoopRead.the-variants as mode
 use Rattle.words.specs.declared.modes.StateRead.the-variants as state
 use Rattle.words.specs.declared.tracks.LaxKeyframe.{LaxKeyframe}
+use Rattle.words.specs.declared.tracks.FrameRead.the-variants as frame
 use Rattle.words.specs.declared.tweens.TweenRead.the-variants.{Known}
 use Rattle.words.specs.Kinds.{easingFrom, easingWords}
 use Rattle.words.specs.Modes.{loopFrom, loopWords, stateFrom, stateWord}
-use Rattle.words.specs.Tracks.{blanks, knownTrack, trackFrom, trackWords}
+use Rattle.words.specs.Tracks.{blanks, knownTrack, frameRead, trackFrom, frameWords, trackWords}
 use Rattle.words.specs.Tweens.{tweenFrom, tweenWords}
 
 abbrev pub EasingBack : Type 0
@@ -27,6 +29,9 @@ LoopBack = (l : Loop) → loopFrom (loopWords l) ≡ mode.Known l
 
 abbrev pub StateBack : Type 0
 StateBack = (s : TweenState) → stateFrom (stateWord s) ≡ state.Known s
+
+abbrev pub FrameBack : Type 0
+FrameBack = (k : Keyframe) → frameRead (frameWords k) ≡ frame.Known k
 
 abbrev pub TweenBack : Type 0
 TweenBack = (t : Tween) → tweenFrom (tweenWords t) ≡ Known t

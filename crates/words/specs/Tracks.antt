@@ -4,21 +4,29 @@ use mathlib.Core.Bool.{Bool, true, not, cond, _&&_}
 use mathlib.Core.List.{List, [], _∷_, _++_, map}
 use lib.Dec.{ltb, eqb}
 use lib.ListN.{take, drop, replicate}
+use lib.Ieee.{Float}
 use Rattle.easing.specs.declared.kinds.Easing.{Easing}
 use Rattle.easing.specs.declared.kinds.Easing.the-variants.{Linear}
 use Rattle.loop_mode.specs.declared.Loop.{Loop}
 use Rattle.loop_mode.specs.declared.Loop.the-variants.{Once}
 use Rattle.frames.specs.declared.frame.Keyframe.{Keyframe}
-use Rattle.frames.specs.Limits.{blank}
+use Rattle.frames.specs.Limits.{frameOf, blank}
 use Rattle.keyframe.specs.declared.types.Track.{Track}
+use Rattle.words.specs.declared.kinds.LaxEasing.{LaxEasing}
 use Rattle.words.specs.declared.kinds.EasingRead.{EasingRead}
 use Rattle.words.specs.declared.kinds.EasingRead.the-variants as kind
 use Rattle.words.specs.declared.modes.LoopRead.{LoopRead}
 use Rattle.words.specs.declared.modes.LoopRead.the-variants as mode
 use Rattle.words.specs.declared.tracks.LaxKeyframe.{LaxKeyframe}
 use Rattle.words.specs.declared.tracks.LaxTrack.{LaxTrack}
+use Rattle.words.specs.declared.tracks.FrameRead.{FrameRead}
+use Rattle.words.specs.declared.tracks.FrameRead.the-variants.{Known, Unknown}
 use Rattle.words.specs.Kinds.{isKind, easingFrom, easingWords}
 use Rattle.words.specs.Modes.{isMode, loopFrom, loopWords, flagWord}
+
+-- the words of a frame
+abbrev pub laxFrame : Float → Float → LaxEasing → LaxKeyframe
+laxFrame time value e = record { time = time; value = value; easing = e }
 
 -- how many of the 64 places are looked at
 abbrev pub placesIn : ℕ → ℕ
@@ -43,7 +51,11 @@ loopIn (mode.Known l) = l
 loopIn mode.Unknown = Once
 
 unfoldable pub frameFrom : LaxKeyframe → Keyframe
-frameFrom w = record { time = w .time; value = w .value; easing = easingIn (easingFrom (w .easing)) }
+frameFrom w = frameOf (w .time) (w .value) (easingIn (easingFrom (w .easing)))
+
+-- one frame alone: Unknown where its kind is none
+unfoldable pub frameRead : LaxKeyframe → FrameRead
+frameRead w = cond (isKind (w .easing .kind)) (Known (frameFrom w)) Unknown
 
 -- 64 places without a frame
 abbrev pub blanks : List Keyframe
@@ -65,7 +77,7 @@ trackFrom w =
     }
 
 unfoldable pub frameWords : Keyframe → LaxKeyframe
-frameWords k = record { time = k .time; value = k .value; easing = easingWords (k .easing) }
+frameWords k = laxFrame (k .time) (k .value) (easingWords (k .easing))
 
 -- the places behind the frames are those that came
 unfoldable pub framesWords : List LaxKeyframe → List Keyframe → ℕ → List LaxKeyframe

@@ -1,8 +1,9 @@
 // A track as words.
 ghost use mathlib.Core.Path.{_≡_};
 ghost use Prim.Native.Nat.{_≤_};
+ghost use Rattle.words.specs.Kinds.{isKind};
 ghost use Rattle.words.specs.Modes.{loopFrom};
-ghost use Rattle.words.specs.Tracks.{placesIn, loopIn, frameFrom, framesFrom, trackFrom, knownTrack, frameWords, framesWords, trackWords};
+ghost use Rattle.words.specs.Tracks.{laxFrame, placesIn, loopIn, frameFrom, frameRead, framesFrom, trackFrom, knownTrack, frameWords, framesWords, trackWords};
 use crate::kinds::EasingRead;
 use crate::kinds::LaxEasing;
 use crate::kinds::easing_of;
@@ -24,6 +25,23 @@ pub struct LaxKeyframe {
     pub easing: LaxEasing,
 }
 
+impl LaxKeyframe {
+    pub fn new(time: f32, value: f32, easing: LaxEasing) -> LaxKeyframe
+        ensures { λ r. ⌜ r ≡ laxFrame time value easing ⌝ }
+    {
+        LaxKeyframe {
+            time,
+            value,
+            easing,
+        }
+    }
+}
+
+pub enum FrameRead {
+    Known(Keyframe),
+    Unknown,
+}
+
 // The first count places are the track's frames. The places behind them are not looked at, and come
 // back as they came.
 #[repr(C)]
@@ -43,6 +61,13 @@ pub fn places(count: usize) -> usize
     if count < 64 { count } else { 64 }
 }
 
+// One of the 38.
+fn is_kind(kind: u32) -> bool
+    ensures { λ r. ⌜ r ≡ isKind kind ⌝ }
+{
+    kind < 38
+}
+
 // Whether every kind and the mode are known.
 pub fn is_known(w: LaxTrack) -> bool
     ensures { λ r. ⌜ r ≡ knownTrack w ⌝ }
@@ -51,7 +76,7 @@ pub fn is_known(w: LaxTrack) -> bool
     let mut i: usize = 0;
     while i < n {
         let k = w.frames[i];
-        if k.easing.kind < 38 {
+        if is_kind(k.easing.kind) {
             i += 1;
         } else {
             return false;
@@ -64,17 +89,19 @@ fn frame_of(w: LaxKeyframe) -> Keyframe
     ensures { λ r. ⌜ r ≡ frameFrom w ⌝ }
 {
     match easing_of(w.easing) {
-        EasingRead::Known(easing) => Keyframe {
-            time: w.time,
-            value: w.value,
-            easing,
-        },
-        EasingRead::Unknown => Keyframe {
-            time: w.time,
-            value: w.value,
-            easing: Easing::Linear,
-        },
+        EasingRead::Known(easing) => Keyframe::new(w.time, w.value, easing),
+        EasingRead::Unknown => Keyframe::new(w.time, w.value, Easing::Linear),
     }
+}
+
+// One frame alone.
+pub fn read_frame(w: LaxKeyframe) -> FrameRead
+    ensures { λ r. ⌜ r ≡ frameRead w ⌝ }
+{
+    if is_kind(w.easing.kind) {
+        return FrameRead::Known(frame_of(w));
+    }
+    FrameRead::Unknown
 }
 
 fn frames_of(words: [LaxKeyframe; 64], count: usize) -> [Keyframe; 64]
@@ -120,11 +147,7 @@ pub fn frame_words(k: Keyframe) -> LaxKeyframe
     ensures { λ r. ⌜ r ≡ frameWords k ⌝ }
 {
     let easing = k.easing;
-    LaxKeyframe {
-        time: k.time,
-        value: k.value,
-        easing: easing_words(easing),
-    }
+    LaxKeyframe::new(k.time, k.value, easing_words(easing))
 }
 
 // Over the places that came.

@@ -9,4 +9,5 @@ lax-track-push-spec =
     (tie.spec
     (λ c κs. search needs)
     (λ c κs. search needs)
-    (λ c. simp (c .lax-track-push-eased .ensures, c .before .easing-words .ensures)))
+    (λ c κs. search needs)
+    (λ c. simp (c .lax-track-push-frame .ensures, c .before .new .ensures, c .before .before .easing-words .ensures)))

@@ -1,23 +1,7 @@
 -- `lax_track_push_eased` meets its contract, by what its callees ensure. Assumes nothing.
 use borrow.Author.Needs.{needs}
-use Rattle.capi.specs.Tracks.{laxTrackPush}
 use Rattle.capi.proofs.tracks.lax_track_push_eased.Statement.{statement}
 use Rattle.capi.proofs.tracks.lax_track_push_eased.Tie as tie
 
 pub lax-track-push-eased-spec : {M : Type 1} → statement M
-unfolding laxTrackPush
-lax-track-push-eased-spec =
-    tie.close
-    (tie.spec
-    (λ c κs. search needs)
-    (λ c κs. search needs)
-    (λ c. search needs)
-    (λ c. search needs)
-    (λ c κs. search needs)
-    (λ c. simp (← (c .before .before .before .before .before .is-known .ensures), c .before .before .before .before .if1 .taken, ← (c .before .before .before .easing-of .ensures), c .before .enum-told .given .1, c .untouched .ensures))
-    (λ c κs. search needs)
-    (λ c κs. search needs)
-    (λ c κs. search needs)
-    (λ c. simp (← (c .before .before .before .before .before .before .before .before .is-known .ensures), c .before .before .before .before .before .before .before .if1 .taken, ← (c .before .before .before .before .before .before .easing-of .ensures), c .before .before .before .before .easing .given .1, c .track-changed-words .ensures, c .before .push-eased .ensures, c .before .before .track-of .ensures))
-    (λ c κs. search needs)
-    (λ c. simp (← (c .before .before .is-known .ensures), c .before .if1 .left, c .untouched2 .ensures)))
+lax-track-push-eased-spec = tie.close (tie.spec (λ c κs. search needs) (λ c κs. search needs) (λ c. simp (c .lax-track-push-frame .ensures, c .before .new .ensures)))

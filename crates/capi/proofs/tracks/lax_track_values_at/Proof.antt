@@ -13,6 +13,10 @@ lax-track-values-at-spec =
     (λ c κs. search needs)
     (λ c κs. search needs)
     (λ c κs. search needs)
+    (λ c κs. search needs)
     (λ c. search needs)
-    (λ c. rw (← (c .before .before .before .before .before .before .before .before .is-known .ensures), c .before .before .before .before .before .before .before .if1 .taken, ← (c .before .before .before .before .before .before .track-of .ensures)) (rw (c .before .before .fill-values .ensures .0, c .before .before .fill-values .ensures .1 .1 .0, c .before .before .fill-values .ensures .1 .1 .1) refl, c .before .before .fill-values .ensures .1 .0))
+    (λ c.
+    let f = c .before .before .before .fill-values .ensures in
+    let b = c .before .before .before .before .before .before .before in
+    rw (← (b .is-known .ensures), c .before .before .before .before .before .before .if1 .taken, c .filled-words .ensures, f .0, ← (c .before .before .before .before .before .track-of .ensures)) (refl, f .1))
     (λ c. rw (← (c .before .is-known .ensures), c .if1 .left) (refl, refl)))

@@ -14,4 +14,5 @@ frame-at-spec =
     (λ c κs. search needs)
     (λ c. search needs)
     (λ c κs. search needs)
-    (λ c. simp (c .easing-at .ensures, c .before .float-at2 .ensures, c .before .before .float-at .ensures)))
+    (λ c κs. search needs)
+    (λ c. simp (c .new .ensures, c .before .easing-at .ensures, c .before .before .float-at2 .ensures, c .before .before .before .float-at .ensures)))

@@ -11,6 +11,8 @@ frame-of-spec =
     (tie.spec
     (λ c κs. search needs)
     (λ c. search needs)
+    (λ c κs. search needs)
     (λ c. search needs)
-    (λ c. simp (← (c .before .before .before .easing-of .ensures), c .before .easing .given .1))
-    (λ c. simp (← (c .before .before .easing-of .ensures), c .enum-told .given .1)))
+    (λ c κs. search needs)
+    (λ c. simp (c .new .ensures, ← (c .before .before .before .before .easing-of .ensures), c .before .before .easing .given .1))
+    (λ c. simp (c .new2 .ensures, ← (c .before .before .before .easing-of .ensures), c .before .enum-told .given .1)))

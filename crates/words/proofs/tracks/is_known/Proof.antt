@@ -1,9 +1,8 @@
 -- `is_known` meets its contract. The invariant: the kinds from place i on decide. The measure is the places that are left. Assumes nothing.
 use Prim.Native.Nat.{_≤_, _-_}
-use mathlib.Core.Path.{_≡_, refl, _∙_}
+use mathlib.Core.Path.{_≡_, refl, sym, _∙_}
 use native.Mathlib.Omega.{arith}
 use borrow.Author.Needs.{needs}
-use borrow.Author.Tests.{lt-ltb, le-ltb}
 use lib.ListN.{length, take, drop}
 use Rattle.words.specs.Tracks.{knownKinds, knownTrack}
 use Rattle.words.proofs.Known.{words-long, known-step, known-end}
@@ -28,6 +27,7 @@ is-known-spec =
     (λ c. (omega arith, refl))
     (λ c. search needs)
     (λ c. search needs)
+    (λ c κs. search needs)
     (λ c. search needs)
     (λ c. search needs)
     (λ c.
@@ -36,14 +36,14 @@ is-known-spec =
     let w = b .args .t1 in
     let l : length (w .frames) ≡ 64 = words-long w _ (b .good .0) in
     let fit : s .before .places .result ≤ length (w .frames) = omega (arith, s .before .places .ensures .0) in
-    (omega arith, s .loop .inv .1 ∙ (known-step (w .frames) _ fit (s .loop .i) (omega arith) ∙ rw (lt-ltb _ _ (c .if1 .taken)) refl)))
+    (omega arith, s .loop .inv .1 ∙ (known-step (w .frames) _ fit (s .loop .i) (omega arith) ∙ rw (sym (c .before .is-kind .ensures) ∙ c .if1 .taken) refl)))
     (λ c.
     let s = c .before .before .before .before in
     let b = s .before .before in
     let w = b .args .t1 in
     let l : length (w .frames) ≡ 64 = words-long w _ (b .good .0) in
     let fit : s .before .places .result ≤ length (w .frames) = omega (arith, s .before .places .ensures .0) in
-    rw (← (s .before .places .ensures .1), s .loop .inv .1, known-step (w .frames) _ fit (s .loop .i) (omega arith), le-ltb _ _ (c .if1 .left)) refl)
+    rw (← (s .before .places .ensures .1), s .loop .inv .1, known-step (w .frames) _ fit (s .loop .i) (omega arith), sym (c .before .is-kind .ensures) ∙ c .if1 .left) refl)
     (λ c.
     let s = c .before in
     let b = s .before .before in

@@ -15,11 +15,10 @@ values-at-spec =
     (λ c κs. search needs)
     (λ c.
     let x = c .before .before .before in
-    let a = x .before .before .before .before .before .before .args in
+    let a = x .before .before .before .before .args in
     let f = count-fits (a .self) (now (a .times)) (now (a .out)) in
     let k = x .fill-values .kept .1 .1 .0 in
-    let n = x .fill-values .ensures .0 in
-    sym (length-take-le _ _ (omega arith)))
+    rw (x .fill-values .ensures .0) (sym (length-take-le _ _ (omega (arith, f, k)))))
     (λ c.
     let e = c .before .before .before .fill-values .ensures in
-    (rw (e .0, e .1 .0), (refl, e .1 .1))))
+    rw (e .0, e .1) (refl, (refl, (refl, refl)))))
