@@ -5,8 +5,9 @@ use mathlib.Core.List.{List, [], _∷_, _++_}
 use native.Mathlib.Nat.{mod-lt, mod-add-div', div-lt-iff-lt-mul, pow-suc}
 use native.Mathlib.Omega.{arith}
 use lib.ListN.{length, getD, take, drop}
-use lib.Seq.{take-at, drop-append-seam}
+use lib.Seq.{take-nil, drop-nil, take-at, drop-append-seam}
 use Rattle.math.specs.Bytes.{lowFirst, fromLow, lowAt, AreBytes}
+use Rattle.math.proofs.Parts.{reads}
 
 pub length-low : (k n : ℕ) → length (lowFirst k n) ≡ k
 length-low zero n = refl
@@ -27,6 +28,18 @@ low-back (suc k) n h =
 -- and so it is where they stand among others
 pub low-at : (front rest : List ℕ) (k n : ℕ) → n < 256 ^ k → lowAt k (length front) (front ++ (lowFirst k n ++ rest)) ≡ n
 low-at front rest k n h = rw (drop-append-seam front (lowFirst k n ++ rest), take-at (lowFirst k n) rest k (length-low k n)) (low-back k n h)
+
+low-next : (k i : ℕ) (l : List ℕ) → getD l i 0 + lowAt k (suc i) l * 256 ≡ lowAt (suc k) i l
+low-next k i [] = rw (drop-nil {A = ℕ} i, drop-nil {A = ℕ} (suc i), take-nil {A = ℕ} k) refl
+low-next k zero (b ∷ l) = refl
+low-next k (suc i) (b ∷ l) = low-next k i l
+
+-- a number that is read byte by byte
+pub low-reads : (k j i : ℕ) (l : List ℕ) → fromLow (reads 0 k j i l) ≡ lowAt k (i + j) l
+low-reads zero j i l = refl
+low-reads (suc k) j i l =
+    let e : i + suc j ≡ suc (i + j) = omega arith in
+    ap (λ (m : ℕ). getD l (i + j) 0 + m * 256) (low-reads k (suc j) i l ∙ ap (λ (p : ℕ). lowAt k p l) e) ∙ low-next k (i + j) l
 
 head-byte : (b m : ℕ) → b < 256 → ((b + m * 256) % 256 ≡ b) × ((b + m * 256) / 256 ≡ m)
 head-byte b m h = (omega arith, omega arith)
