@@ -22,7 +22,7 @@ length-log es = omega (arith, length-append head (recordsFrom 0 es), length-reco
 
 -- a number, as it is read byte by byte
 pub number-read : (log : List ℕ) (place : ℕ) → getD log place 0 + getD log (place + 1) 0 * 256 ≡ numberAt log place
-number-read log place = omega (arith, rw (add-zero place) at (low-reads 2 0 place log))
+number-read log place = omega (arith, low-reads 2 place log)
 
 wraps : (n i : ℕ) → (next n + i) % 65536 ≡ (n + suc i) % 65536
 wraps n i = mod-add-mod (n + 1) 65536 i ∙ ap (λ (k : ℕ). k % 65536) (omega arith)

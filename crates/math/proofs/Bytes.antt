@@ -2,12 +2,12 @@
 use Prim.Native.Nat.{ℕ, zero, suc, _+_, _*_, _/_, _%_, _^_, _<_}
 use mathlib.Core.Path.{_≡_, refl, sym, ap, ap₂, subst, _∙_}
 use mathlib.Core.List.{List, [], _∷_, _++_}
-use native.Mathlib.Nat.{mod-lt, mod-add-div', div-lt-iff-lt-mul, pow-suc}
+use native.Mathlib.Nat.{add-zero, mod-lt, mod-add-div', div-lt-iff-lt-mul, pow-suc}
 use native.Mathlib.Omega.{arith}
 use lib.ListN.{length, getD, take, drop}
 use lib.Seq.{take-nil, drop-nil, take-at, drop-append-seam}
 use Rattle.math.specs.Bytes.{lowFirst, fromLow, lowAt, AreBytes}
-use Rattle.math.proofs.Parts.{reads}
+use Rattle.math.proofs.Parts.{readsFrom, reads, reads-plain}
 
 pub length-low : (k n : ℕ) → length (lowFirst k n) ≡ k
 length-low zero n = refl
@@ -34,12 +34,15 @@ low-next k i [] = rw (drop-nil {A = ℕ} i, drop-nil {A = ℕ} (suc i), take-nil
 low-next k zero (b ∷ l) = refl
 low-next k (suc i) (b ∷ l) = low-next k i l
 
--- a number that is read byte by byte
-pub low-reads : (k j i : ℕ) (l : List ℕ) → fromLow (reads 0 k j i l) ≡ lowAt k (i + j) l
-low-reads zero j i l = refl
-low-reads (suc k) j i l =
+from-low : (k j i : ℕ) (l : List ℕ) → fromLow (readsFrom 0 k j i l) ≡ lowAt k (i + j) l
+from-low zero j i l = refl
+from-low (suc k) j i l =
     let e : i + suc j ≡ suc (i + j) = omega arith in
-    ap (λ (m : ℕ). getD l (i + j) 0 + m * 256) (low-reads k (suc j) i l ∙ ap (λ (p : ℕ). lowAt k p l) e) ∙ low-next k (i + j) l
+    ap (λ (m : ℕ). getD l (i + j) 0 + m * 256) (from-low k (suc j) i l ∙ ap (λ (p : ℕ). lowAt k p l) e) ∙ low-next k (i + j) l
+
+-- a number that is read byte by byte
+pub low-reads : (k i : ℕ) (l : List ℕ) → fromLow (reads 0 k i l) ≡ lowAt k i l
+low-reads k i l = ap fromLow (reads-plain 0 k i l) ∙ from-low k 0 i l ∙ ap (λ (p : ℕ). lowAt k p l) (add-zero i)
 
 head-byte : (b m : ℕ) → b < 256 → ((b + m * 256) % 256 ≡ b) × ((b + m * 256) / 256 ≡ m)
 head-byte b m h = (omega arith, omega arith)

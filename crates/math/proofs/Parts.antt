@@ -9,22 +9,29 @@ use lib.Seq.{take-add, drop-drop, drop-cons, length-take-le, take-append-le, dro
 use Rattle.math.specs.Lists.{split}
 
 module _ {A : Type 0} where
-  -- so many elements, one by one, from k places behind i on
-  abbrev pub reads : A → ℕ → ℕ → ℕ → List A → List A
-  reads d zero k i l = []
-  reads d (suc n) k i l = getD l (i + k) d ∷ reads d n (suc k) i l
+  -- n elements as a program reads them, one by one: at i, i + 1, i + 2 and so on
+  abbrev pub readsFrom : A → ℕ → ℕ → ℕ → List A → List A
+  readsFrom d zero k i l = []
+  readsFrom d (suc n) k i l = getD l (i + k) d ∷ readsFrom d n (suc k) i l
 
-  reads-on : (d : A) (n k i : ℕ) (l : List A) → i + k + n ≤ length l → reads d n k i l ≡ take n (drop (i + k) l)
-  reads-on d zero k i l h = refl
-  reads-on d (suc n) k i l h =
-      let e : suc (i + k) ≡ i + suc k = omega arith in
-      ap (λ (t : List A). getD l (i + k) d ∷ t) (reads-on d n (suc k) i l (omega arith))
-      ∙ ap (λ (m : ℕ). getD l (i + k) d ∷ take n (drop m l)) (sym e)
+  abbrev pub reads : A → ℕ → ℕ → List A → List A
+  reads d zero i l = []
+  reads d (suc n) i l = getD l i d ∷ readsFrom d n 1 i l
+
+  pub reads-plain : (d : A) (n i : ℕ) (l : List A) → reads d n i l ≡ readsFrom d n 0 i l
+  reads-plain d zero i l = refl
+  reads-plain d (suc n) i l = rw (add-zero i) refl
+
+  from-part : (d : A) (n k i : ℕ) (l : List A) → i + k + n ≤ length l → readsFrom d n k i l ≡ take n (drop (i + k) l)
+  from-part d zero k i l h = refl
+  from-part d (suc n) k i l h =
+      let e : i + suc k ≡ suc (i + k) = omega arith in
+      ap (λ (t : List A). getD l (i + k) d ∷ t) (from-part d n (suc k) i l (omega arith) ∙ ap (λ (m : ℕ). take n (drop m l)) e)
       ∙ sym (ap (take (suc n)) (drop-cons l (i + k) d (omega arith)))
 
   -- they are a part of the list
-  pub reads-part : (d : A) (n i : ℕ) (l : List A) → i + n ≤ length l → reads d n 0 i l ≡ take n (drop i l)
-  reads-part d n i l h = reads-on d n 0 i l (omega arith) ∙ ap (λ (m : ℕ). take n (drop m l)) (add-zero i)
+  pub reads-part : (d : A) (n i : ℕ) (l : List A) → i + n ≤ length l → reads d n i l ≡ take n (drop i l)
+  reads-part d n i l h = reads-plain d n i l ∙ from-part d n 0 i l (omega arith) ∙ ap (λ (m : ℕ). take n (drop m l)) (add-zero i)
 
   module _ (size : ℕ) where
     pub length-split : (n : ℕ) (l : List A) → length (split size n l) ≡ n
