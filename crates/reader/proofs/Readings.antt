@@ -5,6 +5,7 @@ use mathlib.Core.List.{List, [], _∷_, _++_, append-assoc, append-nil}
 use native.Mathlib.Omega.{arith}
 use lib.ListN.{length, take, drop, set, length-drop, length-set}
 use lib.Seq.{drop-drop, drop-length}
+use Rattle.math.specs.Lists.{split}
 use Rattle.refusal.specs.declared.Refusal.{Refusal}
 use Rattle.steps.specs.declared.run.Outcome.{Outcome}
 use Rattle.steps.specs.declared.run.Outcome.the-variants.{Finished, Refused}
@@ -12,14 +13,14 @@ use Rattle.steps.specs.Course.{over}
 use Rattle.steps.proofs.Fronts.{Written, more}
 use Rattle.reader.specs.declared.hear.Replay.{Replay}
 use Rattle.reader.specs.declared.hear.Heard.the-variants.{Goes, Stops}
-use Rattle.reader.specs.Records.{split, recordsOf}
+use Rattle.reader.specs.Records.{recordsOf}
 use Rattle.reader.specs.Hearing.{heardOf}
 use Rattle.reader.specs.Reading.{Reading, ended, readingOf, answerOf}
 
 -- the first record, and the rest
 pub records-cons : (l : List ℕ) → 8 ≤ length l → recordsOf l ≡ take 8 l ∷ recordsOf (drop 8 l)
 unfolding split
-records-cons l h = let e : length l / 8 ≡ suc (length (drop 8 l) / 8) = omega (arith, length-drop 8 l) in ap (λ (n : ℕ). split n l) e
+records-cons l h = let e : length l / 8 ≡ suc (length (drop 8 l) / 8) = omega (arith, length-drop 8 l) in ap (λ (n : ℕ). split 8 n l) e
 
 -- the record at place i, and those behind it
 pub records-next : (bytes : List ℕ) (i : ℕ) → i < length bytes / 8 → recordsOf (drop (i * 8) bytes) ≡ take 8 (drop (i * 8) bytes) ∷ recordsOf (drop ((i + 1) * 8) bytes)
