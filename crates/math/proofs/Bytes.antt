@@ -1,10 +1,10 @@
 -- Numbers as bytes, low byte first, in any number of them: how many they are, and that each is read back from the other. Assumes nothing.
 use Prim.Native.Nat.{ℕ, zero, suc, _+_, _*_, _/_, _%_, _^_, _<_}
-use mathlib.Core.Path.{_≡_, refl, sym, ap, ap₂, subst, _∙_}
+use mathlib.Core.Path.{_≡_, refl, ap, subst, _∙_}
 use mathlib.Core.List.{List, [], _∷_, _++_}
 use native.Mathlib.Nat.{add-zero, mod-lt, mod-add-div', div-lt-iff-lt-mul, pow-suc}
 use native.Mathlib.Omega.{arith}
-use lib.ListN.{length, getD, take, drop}
+use lib.ListN.{length, getD}
 use lib.Seq.{take-nil, drop-nil, take-at, drop-append-seam}
 use Rattle.math.specs.Bytes.{lowFirst, fromLow, lowAt, AreBytes}
 use Rattle.math.proofs.Parts.{readsFrom, reads, reads-plain}

@@ -44,6 +44,11 @@ module _ {A : Type 0} where
     unfolding split
     split-cons n p l h = rw (take-at p l size h, drop-at p l size h) refl
 
+    -- the part from a place on, and those behind it
+    pub split-next : (n place : ℕ) (l : List A) → split size (suc n) (drop place l) ≡ take size (drop place l) ∷ split size n (drop (place + size) l)
+    unfolding split
+    split-next n place l = ap (λ (t : List A). take size (drop place l) ∷ split size n t) (drop-drop size place l)
+
     none : (l : List A) → length l ≡ 0 → l ≡ []
     none [] h = refl
     none (x ∷ l) h = absurd (omega (arith, h))
