@@ -1,4 +1,4 @@
--- A float as its 32 bits and back, of every float and every pattern. The f32 of a pattern is `f32`, in `Rounded`.
+-- Request 2, "Write the event log": "f32 bits", of every float. The way back, the f32 of a pattern, is `f32` in `Rounded`.
 use mathlib.Core.Path.{_≡_}
 use mathlib.Core.Bool.{false}
 use Prim.Native.Nat.{ℕ, _<_}
@@ -6,11 +6,11 @@ use lib.Dec.{T}
 use lib.Ieee.{Float, nan, binary32, fits, isNan, toBits}
 use Rattle.math.specs.Rounded.{f32}
 
--- a zero keeps its sign
+-- the 32 bits of x: a zero keeps its sign, and every NaN has the same bits, 0x7fc00000
 abbrev pub bitsOf : Float → ℕ
 bitsOf x = toBits binary32 x
 
--- every NaN has the same bits, a quiet one's
+-- which is computed
 abbrev pub NanBits : Type 0
 NanBits = bitsOf nan ≡ 0x7fc0_0000
 

@@ -1,4 +1,4 @@
--- Whole numbers as bytes, low byte first.
+-- Request 2, "Write the event log": "numbers low byte first".
 use Prim.Native.Nat.{ℕ, zero, suc, _+_, _*_, _/_, _%_, _<_}
 use mathlib.Core.List.{List, [], _∷_}
 use lib.ListN.{getD, take, drop}

@@ -1,10 +1,10 @@
-// A float as its 32 bits, and back. The language's own `to_bits` and `from_bits` ask for a proof that there is no NaN.
+// A float as its 32 bits and back, a NaN too: `to_bits` and `from_bits` ask for a proof that there is none.
 ghost use mathlib.Core.Path.{_≡_};
 ghost use Rattle.math.specs.Bits.{bitsOf};
 ghost use Rattle.math.specs.Rounded.{f32};
 use crate::class::is_nan;
 
-// 0x7fc00000 for every NaN; -0 is 0x80000000.
+// 0x7fc00000 for every NaN; -0 keeps its sign.
 pub fn bits(x: f32) -> u32
     ensures { λ r. ⌜ r ≡ bitsOf x ⌝ }
 {
@@ -14,7 +14,7 @@ pub fn bits(x: f32) -> u32
     f32::to_bits(x)
 }
 
-// Every pattern above infinity's, on either side of 0, reads as the one NaN.
+// Every NaN's pattern reads alike.
 pub fn of_bits(pattern: u32) -> f32
     ensures { λ r. ⌜ r ≡ f32 pattern ⌝ }
 {
