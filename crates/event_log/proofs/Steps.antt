@@ -2,7 +2,8 @@
 use mathlib.Core.Path.{_≡_, refl, sym, ap, _∙_}
 use mathlib.Core.Bool.{Bool, true, false, not, _||_, false≢true}
 use lib.Dec.{T}
-use lib.Ieee.{Float, nan, inf, fin, binary32, lt, isNan, ofBits, toBits}
+use lib.Ieee.{Float, nan, inf, fin, lt, isNan, ofBits, toBits}
+use Rattle.math.specs.Bits.{bitsOf}
 use Rattle.math.specs.Rounded.{zeroF, topF}
 use Rattle.event_log.specs.declared.event.Event.{Event}
 use Rattle.event_log.specs.Format.{stepOf, patternOf}
@@ -14,7 +15,7 @@ number nan h = absurd (false≢true h)
 number (inf s) h = tt
 number (fin s m e) h = tt
 
-pub above : (x : Float) → lt zeroF x ≡ true → toBits binary32 x ≡ patternOf x
+pub above : (x : Float) → lt zeroF x ≡ true → bitsOf x ≡ patternOf x
 above x h = rw h refl
 
 pub not-above : (x : Float) → lt zeroF x ≡ false → 0 ≡ patternOf x

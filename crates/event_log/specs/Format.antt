@@ -1,24 +1,21 @@
 -- Request 2, "Write the event log": the format, in its order. A log is a list of bytes.
-use Prim.Native.Nat.{ℕ, zero, suc, _+_, _/_, _%_}
+use Prim.Native.Nat.{ℕ, _+_, _%_}
 use mathlib.Core.Bool.{Bool, true, false, _&&_}
 use mathlib.Core.List.{List, [], _∷_, _++_}
 use lib.Dec.{eqb}
-use lib.Ieee.{Float, binary32, toBits}
+use lib.Ieee.{Float}
+use Rattle.math.specs.Bits.{bitsOf}
+use Rattle.math.specs.Bytes.{lowFirst}
 use Rattle.math.specs.Rounded.{zeroF}
 use Rattle.math.specs.Range.{maxZeroOf}
 use Rattle.event_log.specs.declared.event.Event.{Event}
 use Rattle.event_log.specs.declared.event.Event.the-variants.{Step, Pause, Resume, Reset}
 
--- "numbers low byte first": n in so many bytes
-abbrev pub lowFirst : ℕ → ℕ → List ℕ
-lowFirst zero n = []
-lowFirst (suc bytes) n = n % 256 ∷ lowFirst bytes (n / 256)
-
 -- "the three bytes `PEL`"
 abbrev pub mark : List ℕ
 mark = 0x50 ∷ 0x45 ∷ 0x4c ∷ []
 
--- "a 16-bit version, now 1"
+-- "a 16-bit version, now 1"; "numbers low byte first"
 abbrev pub version : List ℕ
 version = lowFirst 2 1
 
@@ -42,15 +39,15 @@ stepOf Reset = zeroF
 
 -- "A step of -0 is written as +0"
 abbrev pub patternOf : Float → ℕ
-patternOf x = toBits binary32 (maxZeroOf x)
+patternOf x = bitsOf (maxZeroOf x)
 
 -- "the step's f32 bits [..] (zero unless kind 1)": those of +0 are zero
-abbrev pub bitsOf : Event → ℕ
-bitsOf e = patternOf (stepOf e)
+abbrev pub stepBits : Event → ℕ
+stepBits e = patternOf (stepOf e)
 
 -- "8-byte records: a 16-bit sequence number, one byte kind [..], one zero byte, and the step's f32 bits in four bytes"
 abbrev pub recordOf : ℕ → Event → List ℕ
-recordOf number e = lowFirst 2 number ++ (kindOf e ∷ 0 ∷ lowFirst 4 (bitsOf e))
+recordOf number e = lowFirst 2 number ++ (kindOf e ∷ 0 ∷ lowFirst 4 (stepBits e))
 
 -- "each by the one before plus one, and 65,535 is followed by 0"
 abbrev pub next : ℕ → ℕ

@@ -1,5 +1,5 @@
 -- Request 2, "Write the event log": the two calls, and their refusals in their order.
-use Prim.Native.Nat.{ℕ, _+_, _-_, _*_, _%_, _<_, _≤_}
+use Prim.Native.Nat.{ℕ, _+_, _-_, _%_, _<_, _≤_}
 use mathlib.Core.Bool.{Bool, not, _&&_, _||_, cond}
 use mathlib.Core.List.{List, [], _∷_, _++_}
 use mathlib.Core.Logic.{_⊎_}
@@ -7,6 +7,7 @@ use mathlib.Core.Path.{_≡_}
 use lib.Dec.{leb, eqb}
 use lib.ListN.{length, getD, take, drop}
 use lib.Ieee.{lt, isNan}
+use Rattle.math.specs.Bytes.{lowAt}
 use Rattle.math.specs.Rounded.{zeroF, topF}
 use Rattle.refusal.specs.declared.Refusal.{Refusal}
 use Rattle.refusal.specs.declared.Refusal.the-variants.{StepTooLong, NoRoom, StepBelowZero, WrongMark, UnknownVersion, WrongLength}
@@ -49,9 +50,9 @@ isBackward e = isNan (stepOf e) || lt (stepOf e) zeroF
 abbrev pub isWhole : ℕ → Bool
 isWhole written = leb 5 written && eqb ((written - 5) % 8) 0
 
--- the number of the record at a place
+-- the number of the record at a place: "a 16-bit sequence number", "low byte first"
 abbrev pub numberAt : List ℕ → ℕ → ℕ
-numberAt log place = getD log place 0 + getD log (place + 1) 0 * 256
+numberAt log place = lowAt 2 place log
 
 -- "Records are numbered from 0, each by the one before plus one": the number of the record behind a log, which has a record from 13 bytes on
 abbrev pub numberBehind : List ℕ → ℕ

@@ -1,6 +1,7 @@
 pub mod Beneath
 pub mod Blends
 pub mod Bounded
+pub mod Bytes
 pub mod Ceiling
 pub mod Choice
 pub mod Equals
@@ -10,6 +11,8 @@ mod Form
 pub mod Lists
 pub mod Numbers
 pub mod Order
+pub mod Parts
+pub mod Patterns
 pub mod Ranges
 pub mod Sizes
 pub mod Tallies

@@ -1,5 +1,7 @@
 pub mod Rounded
+pub mod Bits
 pub mod Blend
 pub mod Range
 pub mod Whole
 pub mod Lists
+pub mod Bytes

@@ -1,6 +1,7 @@
 // Helpers on one f32, which every layer leans on.
 mod blending;
 mod class;
+mod pattern;
 mod range;
 mod whole;
 
@@ -9,6 +10,8 @@ pub use blending::ratio;
 pub use class::infinity;
 pub use class::is_finite;
 pub use class::is_nan;
+pub use pattern::bits;
+pub use pattern::of_bits;
 pub use range::EPSILON;
 pub use range::clamp;
 pub use range::clamp01;

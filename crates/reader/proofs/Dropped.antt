@@ -9,7 +9,7 @@ use borrow.Author.Tests.{ltb-true, ltb-false, eqb-true, eqb-false, lt-ltb, le-lt
 use lib.Dec.{T, ltb, eqb}
 use lib.ListN.{length, getD, length-append, List·getD-append}
 use lib.Seq.{getD-append-add}
-use Rattle.math.specs.Lists.{every}
+use Rattle.math.specs.Lists.{every, split}
 use Rattle.steps.specs.declared.run.Outcome.{Outcome}
 use Rattle.steps.specs.declared.run.Outcome.the-variants as outcome
 use Rattle.event_log.specs.declared.event.Event.{Event}
@@ -19,7 +19,6 @@ use Rattle.reader.specs.declared.gaps.Last.{Last}
 use Rattle.reader.specs.declared.gaps.Last.the-variants.{Unread, Number}
 use Rattle.reader.specs.declared.hear.Replay.{Replay}
 use Rattle.reader.specs.declared.hear.Played.the-variants.{Refused}
-use Rattle.reader.specs.Records.{split}
 use Rattle.reader.specs.Hearing.{capped, gapOf}
 use Rattle.reader.specs.Reading.{Reading, readingOf, joinedBy}
 use Rattle.reader.specs.Promises.{isF32}
@@ -90,9 +89,9 @@ module _ (i k : ℕ) (first : Reading) (s : Replay) (from : s .missing ≡ 0) (f
 module _ (k : ℕ) (some : 1 ≤ k) (most : k ≤ 65534) (ds qs : List Event) (fd : T (every isF32 ds)) (fq : T (every isF32 qs)) (D : T (every mayBeLogged ds)) (Q : T (every mayBeLogged qs)) (middle : 1 ≤ length ds) (s : Replay) (from : s .missing ≡ 0) (unread : s .last ≡ Unread) where
   -- the log without the records between ds and qs
   abbrev records : List (List ℕ)
-  records = split (length ds) (recordsFrom 0 ds) ++ split (length qs) (recordsFrom ((length ds + k) % 65536) qs)
+  records = split 8 (length ds) (recordsFrom 0 ds) ++ split 8 (length qs) (recordsFrom ((length ds + k) % 65536) qs)
 
-  first-follows : Follows (length ds) 0 s 0 (readingOf (split (length ds) (recordsFrom 0 ds)) s)
+  first-follows : Follows (length ds) 0 s 0 (readingOf (split 8 (length ds) (recordsFrom 0 ds)) s)
   first-follows = follows ds 0 s 0 fd D (omega arith) (ap (λ (l : Last). gapOf l 0) unread) (λ z. omega (arith, z))
 
   gap-there : (n : ℕ) (l : Last) → l ≡ lastOf 0 n Unread → 1 ≤ n → gapOf l ((n + k) % 65536) ≡ k
@@ -104,16 +103,16 @@ module _ (k : ℕ) (some : 1 ≤ k) (most : k ≤ 65534) (ds qs : List Event) (f
       ∙ gap-lost n k
       ∙ mod-eq-of-lt (omega arith)
 
-  counted : (o : Outcome) → let c = readingOf (split (length ds) (recordsFrom 0 ds)) s in c .outcome ≡ o
-      → Missing (length ds) k (joinedBy o c (readingOf (split (length qs) (recordsFrom ((length ds + k) % 65536) qs))))
-  counted (outcome.Refused r) e = stopped-before (length ds) k (readingOf (split (length ds) (recordsFrom 0 ds)) s) s from first-follows
+  counted : (o : Outcome) → let c = readingOf (split 8 (length ds) (recordsFrom 0 ds)) s in c .outcome ≡ o
+      → Missing (length ds) k (joinedBy o c (readingOf (split 8 (length qs) (recordsFrom ((length ds + k) % 65536) qs))))
+  counted (outcome.Refused r) e = stopped-before (length ds) k (readingOf (split 8 (length ds) (recordsFrom 0 ds)) s) s from first-follows
   counted outcome.Finished e =
-      let c = readingOf (split (length ds) (recordsFrom 0 ds)) s in
+      let c = readingOf (split 8 (length ds) (recordsFrom 0 ds)) s in
       let f = first-follows .2 e in
       let n = (length ds + k) % 65536 in
-      went-on (length ds) k c s from first-follows (length qs) n (readingOf (split (length qs) (recordsFrom n qs)) (c .replay)) (f .0)
+      went-on (length ds) k c s from first-follows (length qs) n (readingOf (split 8 (length qs) (recordsFrom n qs)) (c .replay)) (f .0)
       (follows qs n (c .replay) k fq Q (mod-lt (length ds + k) (omega arith)) (gap-there (length ds) (c .replay .last) (f .1 ∙ ap (lastOf 0 (length ds)) unread) middle) (λ z. omega (arith, z)))
       most
 
   pub counts-between : Missing (length ds) k (readingOf records s)
-  counts-between = rw (reads-on (split (length ds) (recordsFrom 0 ds)) (split (length qs) (recordsFrom ((length ds + k) % 65536) qs)) s) (counted (readingOf (split (length ds) (recordsFrom 0 ds)) s .outcome) refl)
+  counts-between = rw (reads-on (split 8 (length ds) (recordsFrom 0 ds)) (split 8 (length qs) (recordsFrom ((length ds + k) % 65536) qs)) s) (counted (readingOf (split 8 (length ds) (recordsFrom 0 ds)) s .outcome) refl)

@@ -6,6 +6,7 @@ use mathlib.Core.List.{List, [], _∷_, _++_}
 use native.Mathlib.Omega.{arith}
 use lib.Dec.{lit<, lit≤}
 use lib.Ieee.{add, sub, mul, neg, sum, lt, le, eq, round, ofInt, ofBits, toBits}
+use Rattle.math.specs.Lists.{split}
 use Rattle.math.specs.Rounded.{zeroF, oneF}
 use Rattle.easing.specs.declared.kinds.Easing.the-variants.{Linear}
 use Rattle.easing.specs.Kinds.{curveOf, suppliedOf}
@@ -23,7 +24,7 @@ use Rattle.history.specs.History.{Act, step, afterAll, Settings, Holds}
 use Rattle.event_log.specs.declared.event.Event.the-variants.{Step}
 use Rattle.event_log.specs.Format.{head, recordOf}
 use Rattle.reader.specs.declared.gaps.Last.the-variants.{Unread, Number}
-use Rattle.reader.specs.Records.{split, isWrong, eventIn}
+use Rattle.reader.specs.Records.{isWrong, eventIn}
 use Rattle.reader.specs.Hearing.{gapOf, playedOf, heardOf}
 use Rattle.reader.specs.Reading.{Reading, readingOf, readOnOf, replayOf}
 use Rattle.reader.proofs.Demanded.{replay-demand-3}

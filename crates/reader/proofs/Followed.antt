@@ -11,7 +11,7 @@ use lib.Ieee.Fits.{and-l, and-r}
 use lib.Ieee.Bits.{is-true}
 use lib.ListN.{length, getD, take, replicate, length-take, length-replicate}
 use lib.Seq.{getD-take}
-use Rattle.math.specs.Lists.{every}
+use Rattle.math.specs.Lists.{every, split}
 use Rattle.math.proofs.Choice.{and-both}
 use Rattle.steps.specs.declared.run.Outcome.{Outcome}
 use Rattle.steps.specs.declared.run.Outcome.the-variants as outcome
@@ -23,7 +23,6 @@ use Rattle.reader.specs.declared.gaps.Last.the-variants.{Number}
 use Rattle.reader.specs.declared.hear.Replay.{Replay}
 use Rattle.reader.specs.declared.hear.Played.{Played}
 use Rattle.reader.specs.declared.hear.Played.the-variants.{Done, Refused}
-use Rattle.reader.specs.Records.{split}
 use Rattle.reader.specs.Hearing.{capped, gapOf, playedOf, further, heardOf}
 use Rattle.reader.specs.Reading.{Reading, followed, readingOf}
 use Rattle.reader.specs.Promises.{isF32}
@@ -80,7 +79,7 @@ one m number s g (Done u k) rest N h =
     (ap (λ (l : List ℕ). g ∷ l) (i .0 ∙ front-again m (length (rest v .gaps))), i .1 ∙ stays (rest v .gaps) (s .missing + g), λ q. (ap suc (i .2 q .0), i .2 q .1 ∙ last-on number m N))
 
 pub follows : (es : List Event) (number : ℕ) (s : Replay) (g : ℕ) → T (every isF32 es) → T (every mayBeLogged es) → number < 65536 → gapOf (s .last) number ≡ g → (g ≡ 65535 → ⊥)
-    → Follows (length es) number s g (readingOf (split (length es) (recordsFrom number es)) s)
+    → Follows (length es) number s g (readingOf (split 8 (length es) (recordsFrom number es)) s)
 unfolding recordsFrom split readingOf
 follows [] number s g F L N G new = (refl, refl, λ q. (refl, refl))
 follows (e ∷ es) number s g F L N G new =
@@ -91,7 +90,7 @@ follows (e ∷ es) number s g F L N G new =
     hears-recorded number N s e fits short (λ q. new (sym G ∙ q)) ∙ ap (further (playedOf (s .tween) e) s number) G
     in
     rw heard
-    (one (length es) number s g (playedOf (s .tween) e) (readingOf (split (length es) (recordsFrom (next number) es))) N (λ u q.
+    (one (length es) number s g (playedOf (s .tween) e) (readingOf (split 8 (length es) (recordsFrom (next number) es))) N (λ u q.
     follows es (next number) u 0 (and-r (isF32 e) (every isF32 es) F) (and-r (mayBeLogged e) (every mayBeLogged es) L) (mod-lt (number + 1) (omega arith)) (ap (λ (l : Last). gapOf l (next number)) q ∙ gap-next number N) (λ z. omega (arith, z))))
 
 zeros : (n j : ℕ) → getD (replicate {A = ℕ} n 0) j 0 ≡ 0

@@ -5,7 +5,7 @@ use mathlib.Core.Bool.{Bool, true, false, false≢true}
 use mathlib.Core.List.{List, [], _∷_, _++_}
 use native.Mathlib.Nat.{mod-lt, zero-add}
 use native.Mathlib.Omega.{arith}
-use Rattle.math.specs.Lists.{every}
+use Rattle.math.specs.Lists.{every, split}
 use Rattle.math.proofs.Choice.{by-test}
 use lib.Dec.{T}
 use lib.ListN.{length, take, drop, replicate}
@@ -31,7 +31,6 @@ use Rattle.reader.specs.declared.hear.Replay.{Replay}
 use Rattle.reader.specs.declared.hear.Played.{Played}
 use Rattle.reader.specs.declared.hear.Played.the-variants.{Done, Refused}
 use Rattle.reader.specs.declared.hear.Heard.the-variants.{Goes}
-use Rattle.reader.specs.Records.{split}
 use Rattle.reader.specs.Hearing.{capped, gapOf, byUpdate, playedOf, further, heardOf}
 use Rattle.reader.specs.Reading.{readingOf, beginOf, replayOf}
 use Rattle.reader.specs.Promises.{RunLeft, leftWith, leftBy, isF32, isForward, GivesBack}
@@ -59,7 +58,7 @@ accepted-short t Reset u k h = below-top
 -- a reading of the records of a run's calls, from number n on
 abbrev Back : RunLeft → ℕ → Replay → Type 0
 Back run n s =
-    let c = readingOf (split (length (run .calls)) (recordsFrom n (run .calls))) s in
+    let c = readingOf (split 8 (length (run .calls)) (recordsFrom n (run .calls))) s in
     (c .gaps ≡ replicate (length (run .calls)) 0)
     × (c .outcome ≡ Finished)
     × (c .replay .tween ≡ run .tween)
@@ -111,10 +110,10 @@ gives-back t es buffer list W F B space room =
     let n = 5 + 8 * length calls in
     let long = length-records 0 calls in
     let e : length bytes / 8 ≡ length calls = omega arith in
-    let q : replayOf t log list ≡ readingOf (split (length calls) bytes) (beginOf t) =
+    let q : replayOf t log list ≡ readingOf (split 8 (length calls) bytes) (beginOf t) =
     reads-log t log list W refl refl
     ∙ reads (beginOf t) bytes list (omega arith) (omega arith)
-    ∙ ap (λ (m : ℕ). readingOf (split m bytes) (beginOf t)) e
+    ∙ ap (λ (m : ℕ). readingOf (split 8 m bytes) (beginOf t)) e
     in
     let w : recordsIn calls (headIn buffer) ≡ wrote buffer 0 log = writes-log buffer calls (all-taken es t B) space in
     let b : take n (log ++ drop (0 + length log) buffer) ≡ log = take-at log (drop (0 + length log) buffer) n (length-log calls) in

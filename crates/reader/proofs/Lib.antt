@@ -1,7 +1,6 @@
 pub mod Patterns
 pub mod Wrongs
 pub mod Counting
-pub mod Eights
 pub mod Heard
 pub mod Skimming
 pub mod Readings

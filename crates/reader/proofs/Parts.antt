@@ -1,13 +1,14 @@
 -- A log in parts: part after part gives what the whole gives. Assumes nothing.
-use Prim.Native.Nat.{ℕ, zero, suc, _+_, _*_, _%_, _/_, _≤_}
+use Prim.Native.Nat.{ℕ, _+_, _%_, _/_, _≤_}
 use mathlib.Core.Path.{_≡_, refl, sym, ap, _∙_}
 use mathlib.Core.Bool.{Bool, true, false, _&&_}
 use mathlib.Core.List.{List, [], _∷_, _++_}
-use native.Mathlib.Nat.{zero-add}
 use native.Mathlib.Omega.{arith}
 use lib.Dec.{eqb}
 use lib.ListN.{length, drop, length-append, length-drop}
-use lib.Seq.{take-append-le, drop-append-le}
+use lib.Seq.{drop-append-le}
+use Rattle.math.specs.Lists.{split}
+use Rattle.math.proofs.Parts.{split-append}
 use Rattle.refusal.specs.declared.Refusal.{Refusal}
 use Rattle.refusal.specs.declared.Refusal.the-variants.{RecordBreaksLimit, WrongMark, UnknownVersion}
 use Rattle.refusal.specs.Refusing.{unless}
@@ -18,7 +19,7 @@ use Rattle.event_log.specs.Format.{mark, version, startsWith}
 use Rattle.reader.specs.declared.hear.Replay.{Replay}
 use Rattle.reader.specs.declared.hear.Heard.{Heard}
 use Rattle.reader.specs.declared.hear.Heard.the-variants.{Goes, Stops}
-use Rattle.reader.specs.Records.{split, recordsOf}
+use Rattle.reader.specs.Records.{recordsOf}
 use Rattle.reader.specs.Hearing.{heardOf}
 use Rattle.reader.specs.Reading.{Reading, stopped, followed, readingOf, readOnOf, beginOf, replayOf, joinedBy, joined}
 use Rattle.reader.specs.Promises.{PartByPart, LogPartByPart}
@@ -48,21 +49,10 @@ same-rest : (o : Outcome) (c : Reading) (f g : Replay → Reading) → ((u : Rep
 same-rest Finished c f g h = ap (λ (d : Reading). record { gaps = c .gaps ++ d .gaps; replay = d .replay; outcome = d .outcome }) (h (c .replay))
 same-rest (Refused r) c f g h = refl
 
-no-bytes : (l : List ℕ) → length l ≡ 0 → l ≡ []
-no-bytes [] h = refl
-no-bytes (x ∷ l) h = absurd (omega (arith, h))
-
-split-append : (n m : ℕ) (a b : List ℕ) → length a ≡ 8 * n → split (n + m) (a ++ b) ≡ split n a ++ split m b
-unfolding split
-split-append zero m a b h = rw (no-bytes a (omega arith), zero-add m) refl
-split-append (suc n) m a b h =
-    let e : suc n + m ≡ suc (n + m) = omega arith in
-    rw (e, take-append-le 8 a b (omega arith), drop-append-le 8 a b (omega arith), split-append n m (drop 8 a) b (omega (arith, length-drop 8 a))) refl
-
 pub records-both : (a b : List ℕ) → length a % 8 ≡ 0 → recordsOf (a ++ b) ≡ recordsOf a ++ recordsOf b
 records-both a b h =
     let e : length (a ++ b) / 8 ≡ length a / 8 + length b / 8 = omega (arith, length-append a b) in
-    ap (λ (n : ℕ). split n (a ++ b)) e ∙ split-append (length a / 8) (length b / 8) a b (omega arith)
+    ap (λ (n : ℕ). split 8 n (a ++ b)) e ∙ split-append 8 (length a / 8) (length b / 8) a b (omega arith)
 
 pub part-by-part : PartByPart
 part-by-part s a b first second list (p, i) (q, j) (w, k) =

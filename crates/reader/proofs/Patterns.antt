@@ -1,13 +1,13 @@
 -- Which patterns are those of a step: the ones below infinity's. Assumes nothing.
 use Prim.Native.Nat.{ℕ, zero, suc, _+_, _%_, _/_, _<_, _≤_}
 use mathlib.Core.Path.{_≡_, refl, sym, ap, _∙_}
-use mathlib.Core.Bool.{Bool, true, false, not, _&&_, cond, false≢true}
+use mathlib.Core.Bool.{Bool, true, false, not, _&&_, cond}
 use native.Mathlib.Nat.{mod-eq-of-lt}
 use native.Mathlib.Omega.{arith}
 use borrow.Author.Tests.{leb-true, leb-false, lt-leb, eq-eqb, ne-eqb}
 use lib.Dec.{T, leb, eqb}
-use lib.Ieee.{Float, nan, inf, fin, binary32, odd, ofFields, isNan, ofBits, nanBits}
-use lib.Ieee.Bits.{nanBits-is}
+use lib.Ieee.{Float, nan, inf, binary32, odd, ofFields, ofBits, nanBits}
+use Rattle.math.proofs.Patterns as patterns
 use Rattle.reader.specs.Records.{isStep}
 
 and-true : (s : Bool) → s ≡ s && true
@@ -38,7 +38,7 @@ pattern-step : (n : ℕ) → isStep (ofBits binary32 n) ≡ not (leb 0x8000_0000
 unfolding ofBits
 pattern-step n = fields-step (leb 0x8000_0000 n) (n % 0x8000_0000 / 0x80_0000) (n % 0x80_0000)
 
-pub below-infinity : (n : ℕ) → n < 0x7f80_0000 → isStep (ofBits binary32 n) ≡ true
+below-infinity : (n : ℕ) → n < 0x7f80_0000 → isStep (ofBits binary32 n) ≡ true
 below-infinity n h =
     pattern-step n
     ∙ rw (lt-leb 0x8000_0000 n (omega arith), mod-eq-of-lt {n = n} {m = 0x8000_0000} (omega arith), ne-eqb (n / 0x80_0000) 255 (λ e. omega (arith, e))) refl
@@ -57,12 +57,6 @@ wrong-by n false h = sym (ap not (below-infinity n (leb-false 0x7f80_0000 n h)))
 pub wrong-step : (n : ℕ) → leb 0x7f80_0000 n ≡ not (isStep (ofBits binary32 n))
 wrong-step n = wrong-by n (leb 0x7f80_0000 n) refl
 
-is-number : (x : Float) → isStep x ≡ true → T (not (isNan x))
-unfolding isNan
-is-number nan h = absurd (false≢true h)
-is-number (inf s) h = tt
-is-number (fin s m e) h = tt
-
--- a step is no NaN
-pub no-nan : (n : ℕ) → isStep (ofBits binary32 n) ≡ true → T (not (nanBits binary32 n))
-no-nan n h = rw (nanBits-is binary32 n) (is-number (ofBits binary32 n) h)
+-- nor are those a NaN's
+pub no-nan : (n : ℕ) → n < 0x7f80_0000 → T (not (nanBits binary32 n))
+no-nan n h = patterns.no-nan n (omega arith)

@@ -4,7 +4,9 @@ use mathlib.Core.Path.{_≡_, refl, ap, _∙_}
 use mathlib.Core.List.{List, [], _∷_, _++_, append-assoc, append-nil}
 use native.Mathlib.Omega.{arith}
 use lib.ListN.{length, take, drop, set, length-drop, length-set}
-use lib.Seq.{drop-drop, drop-length}
+use lib.Seq.{drop-length}
+use Rattle.math.specs.Lists.{split}
+use Rattle.math.proofs.Parts.{split-next}
 use Rattle.refusal.specs.declared.Refusal.{Refusal}
 use Rattle.steps.specs.declared.run.Outcome.{Outcome}
 use Rattle.steps.specs.declared.run.Outcome.the-variants.{Finished, Refused}
@@ -12,21 +14,16 @@ use Rattle.steps.specs.Course.{over}
 use Rattle.steps.proofs.Fronts.{Written, more}
 use Rattle.reader.specs.declared.hear.Replay.{Replay}
 use Rattle.reader.specs.declared.hear.Heard.the-variants.{Goes, Stops}
-use Rattle.reader.specs.Records.{split, recordsOf}
+use Rattle.reader.specs.Records.{recordsOf}
 use Rattle.reader.specs.Hearing.{heardOf}
 use Rattle.reader.specs.Reading.{Reading, ended, readingOf, answerOf}
-
--- the first record, and the rest
-pub records-cons : (l : List ℕ) → 8 ≤ length l → recordsOf l ≡ take 8 l ∷ recordsOf (drop 8 l)
-unfolding split
-records-cons l h = let e : length l / 8 ≡ suc (length (drop 8 l) / 8) = omega (arith, length-drop 8 l) in ap (λ (n : ℕ). split n l) e
 
 -- the record at place i, and those behind it
 pub records-next : (bytes : List ℕ) (i : ℕ) → i < length bytes / 8 → recordsOf (drop (i * 8) bytes) ≡ take 8 (drop (i * 8) bytes) ∷ recordsOf (drop ((i + 1) * 8) bytes)
 records-next bytes i h =
-    let e : i * 8 + 8 ≡ (i + 1) * 8 = omega arith in
-    records-cons (drop (i * 8) bytes) (omega (arith, length-drop (i * 8) bytes))
-    ∙ ap (λ (l : List ℕ). take 8 (drop (i * 8) bytes) ∷ recordsOf l) (drop-drop 8 (i * 8) bytes ∙ ap (λ (n : ℕ). drop n bytes) e)
+    let behind : i * 8 + 8 ≡ (i + 1) * 8 = omega arith in
+    let many : length (drop (i * 8) bytes) / 8 ≡ suc (length (drop ((i + 1) * 8) bytes) / 8) = omega (arith, length-drop (i * 8) bytes, length-drop ((i + 1) * 8) bytes) in
+    rw (many, split-next 8, behind) refl
 
 -- gaps that come before those of a reading
 abbrev behind : List ℕ → Reading → Reading

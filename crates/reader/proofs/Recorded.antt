@@ -1,40 +1,37 @@
 -- What is read of a record that the writer wrote. Assumes nothing.
-use Prim.Native.Nat.{ℕ, _+_, _*_, _/_, _%_, _<_}
+use Prim.Native.Nat.{ℕ, _<_}
 use mathlib.Core.Path.{_≡_, refl, sym, ap, _∙_}
 use mathlib.Core.Bool.{Bool, true, false, false≢true}
-use native.Mathlib.Omega.{arith}
 use lib.Dec.{T}
 use lib.Ieee.{Float, nan, inf, fin, binary32, fits, lt, ofBits, toBits}
-use lib.Ieee.Bits.{ofBits-toBits, toBits-lt}
-use Rattle.math.specs.Rounded.{zeroF, topF}
+use lib.Ieee.Bits.{toBits-lt}
+use Rattle.math.specs.Bits.{bitsOf}
+use Rattle.math.specs.Rounded.{f32, zeroF, topF}
 use Rattle.math.specs.Range.{maxZeroOf}
+use Rattle.math.proofs.Bytes.{low-back}
 use Rattle.math.proofs.Choice.{by-test}
+use Rattle.math.proofs.Patterns.{float-back}
 use Rattle.tween.specs.declared.record.Tween.{Tween}
 use Rattle.tween.specs.Update.{updateOf}
 use Rattle.event_log.specs.declared.event.Event.{Event}
 use Rattle.event_log.specs.declared.event.Event.the-variants.{Step, Pause, Resume, Reset}
-use Rattle.event_log.specs.Format.{bitsOf, recordOf}
+use Rattle.event_log.specs.Format.{stepBits, recordOf}
 use Rattle.event_log.specs.Writing.{numberAt, isLong}
-use Rattle.event_log.proofs.Logs.{number-kept}
 use Rattle.reader.specs.declared.hear.Replay.{Replay}
 use Rattle.reader.specs.Records.{stepIn, isStep, isWrong, eventIn}
 use Rattle.reader.specs.Hearing.{gapOf, byUpdate, playedOf, further, heardOf}
 use Rattle.reader.specs.Promises.{isF32}
 use Rattle.reader.proofs.Heard.{hears-played}
 
--- four bytes, low byte first, read back
-bits-kept : (b : ℕ) → b < 4294967296 → b % 256 + b / 256 % 256 * 256 + b / 256 / 256 % 256 * 65536 + b / 256 / 256 / 256 % 256 * 16777216 ≡ b
-bits-kept b h = omega arith
-
 from-zero : (x : Float) → T (fits binary32 x) → T (fits binary32 (maxZeroOf x))
 unfolding fits ofBits
 from-zero x h = by-test (λ y. T (fits binary32 y)) (lt zeroF x) x zeroF (λ _. h) (λ _. tt)
 
 -- the step's bits, as written, are the step's, -0 as +0
-read-step : (x : Float) → T (fits binary32 x) → ofBits binary32 (toBits binary32 (maxZeroOf x)) ≡ maxZeroOf x
-read-step x h = ofBits-toBits binary32 (maxZeroOf x) (from-zero x h)
+read-step : (x : Float) → T (fits binary32 x) → f32 (bitsOf (maxZeroOf x)) ≡ maxZeroOf x
+read-step x h = float-back (maxZeroOf x) (from-zero x h)
 
-few-bits : (x : Float) → T (fits binary32 x) → toBits binary32 (maxZeroOf x) < 4294967296
+few-bits : (x : Float) → T (fits binary32 x) → bitsOf (maxZeroOf x) < 4294967296
 few-bits x h = toBits-lt binary32 (maxZeroOf x) (from-zero x h)
 
 above-step : (x : Float) → lt zeroF x ≡ true → lt topF x ≡ false → isStep x ≡ true
@@ -78,10 +75,10 @@ same-update t x k = go (lt zeroF x) refl
 
 module _ (n : ℕ) (below : n < 65536) where
   recorded-number : (e : Event) → numberAt (recordOf n e) 0 ≡ n
-  recorded-number e = number-kept n below
+  recorded-number e = low-back 2 n below
 
   recorded-step : (x : Float) → T (fits binary32 x) → stepIn (recordOf n (Step x)) ≡ maxZeroOf x
-  recorded-step x h = ap (ofBits binary32) (bits-kept (bitsOf (Step x)) (few-bits x h)) ∙ read-step x h
+  recorded-step x h = ap f32 (low-back 4 (stepBits (Step x)) (few-bits x h)) ∙ read-step x h
 
   recorded-right : (e : Event) → T (isF32 e) → isLong e ≡ false → isWrong (recordOf n e) ≡ false
   unfolding isWrong toBits ofBits lt

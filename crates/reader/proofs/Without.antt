@@ -9,7 +9,7 @@ use lib.Dec.{T, leb, eqb}
 use lib.Ieee.Fits.{and-i, and-l, and-r}
 use lib.ListN.{length, take, drop, take-append-drop}
 use lib.Seq.{length-take-le, take-at, drop-at, take-append-add, drop-append-add}
-use Rattle.math.specs.Lists.{every}
+use Rattle.math.specs.Lists.{every, split}
 use Rattle.math.proofs.Choice.{by-test}
 use Rattle.refusal.specs.declared.Refusal.{Refusal}
 use Rattle.refusal.specs.declared.Refusal.the-variants.{RecordBreaksLimit, OutputTooShort, WrongLength}
@@ -19,7 +19,7 @@ use Rattle.event_log.specs.declared.event.Event.{Event}
 use Rattle.event_log.specs.Format.{head, recordsFrom, logOf}
 use Rattle.event_log.specs.Writing.{mayBeLogged}
 use Rattle.event_log.proofs.Logs.{length-records, records-append}
-use Rattle.reader.specs.Records.{split, recordsOf}
+use Rattle.reader.specs.Records.{recordsOf}
 use Rattle.reader.specs.Reading.{Reading, stopped, readOnOf, beginOf, replayOf}
 use Rattle.reader.specs.Promises.{isF32, without, CountsDropped}
 use Rattle.reader.proofs.Parts.{records-both}
@@ -60,7 +60,7 @@ module _ (es : List Event) (i k : ℕ) (inside : i + k < length es) where
       rw (take-append-add head (recordsFrom 0 es) (8 * i), drop-append-add head (recordsFrom 0 es) (8 * (i + k)), front es i (omega arith), back es (i + k) (omega arith))
       (append-assoc head (recordsFrom 0 (take i es)) (recordsFrom ((i + k) % 65536) (drop (i + k) es)))
 
-  records-are : recordsOf bytes ≡ split (length (take i es)) (recordsFrom 0 (take i es)) ++ split (length (drop (i + k) es)) (recordsFrom ((length (take i es) + k) % 65536) (drop (i + k) es))
+  records-are : recordsOf bytes ≡ split 8 (length (take i es)) (recordsFrom 0 (take i es)) ++ split 8 (length (drop (i + k) es)) (recordsFrom ((length (take i es) + k) % 65536) (drop (i + k) es))
   records-are =
       let ds = take i es in
       let qs = drop (i + k) es in

@@ -3,7 +3,7 @@ use Prim.Native.Nat.{ℕ}
 use mathlib.Core.Path.{_≡_, refl, sym, _∙_}
 use mathlib.Core.Bool.{Bool, true, false, not, _||_, cond, false≢true}
 use mathlib.Core.List.{List}
-use borrow.Author.Tests.{not-false, eq-eqb, ne-eqb}
+use borrow.Author.Tests.{leb-false, eq-eqb, ne-eqb}
 use lib.Dec.{T, leb, ltb, eqb}
 use lib.Ieee.{binary32, nanBits}
 use Rattle.reader.specs.Records.{kindIn, zeroIn, bitsIn, stepIn, isStep, isWrong}
@@ -58,4 +58,4 @@ module _ (r : List ℕ) where
 
   -- the step of a record that is not wrong has a pattern that can be read
   pub right-step : kindIn r ≡ 1 → isWrong r ≡ false → T (not (nanBits binary32 (bitsIn r)))
-  right-step k h = no-nan (bitsIn r) (not-false (isStep (stepIn r)) (sym (asked-step k) ∙ right-bits h))
+  right-step k h = no-nan (bitsIn r) (leb-false 0x7f80_0000 (bitsIn r) (wrong-step (bitsIn r) ∙ (sym (asked-step k) ∙ right-bits h)))

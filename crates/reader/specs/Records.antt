@@ -1,21 +1,19 @@
 -- Request 3, "Read it back and count the gaps": the records of a log, and when one is wrong. The format is request 2's.
-use Prim.Native.Nat.{ℕ, zero, suc, _+_, _*_, _/_}
+use Prim.Native.Nat.{ℕ, _/_}
 use mathlib.Core.Bool.{Bool, false, not, _||_, cond}
-use mathlib.Core.List.{List, [], _∷_}
+use mathlib.Core.List.{List}
 use lib.Dec.{ltb, eqb}
-use lib.ListN.{length, getD, take, drop}
-use lib.Ieee.{Float, nan, inf, fin, binary32, ofBits}
+use lib.ListN.{length, getD}
+use lib.Ieee.{Float, nan, inf, fin}
+use Rattle.math.specs.Bytes.{lowAt}
+use Rattle.math.specs.Lists.{split}
+use Rattle.math.specs.Rounded.{f32}
 use Rattle.event_log.specs.declared.event.Event.{Event}
 use Rattle.event_log.specs.declared.event.Event.the-variants.{Step, Pause, Resume, Reset}
 
--- "8-byte records": the first n of them
-unfoldable pub split : ℕ → List ℕ → List (List ℕ)
-split zero bytes = []
-split (suc n) bytes = take 8 bytes ∷ split n (drop 8 bytes)
-
--- all of them; bytes of a tail are in none
+-- "8-byte records", all of them; bytes of a tail are in none
 abbrev pub recordsOf : List ℕ → List (List ℕ)
-recordsOf bytes = split (length bytes / 8) bytes
+recordsOf bytes = split 8 (length bytes / 8) bytes
 
 -- "one byte kind"
 abbrev pub kindIn : List ℕ → ℕ
@@ -27,11 +25,11 @@ zeroIn r = getD r 3 0
 
 -- "the step's f32 bits in four bytes"; "numbers low byte first"
 abbrev pub bitsIn : List ℕ → ℕ
-bitsIn r = getD r 4 0 + getD r 5 0 * 256 + getD r 6 0 * 65536 + getD r 7 0 * 16777216
+bitsIn r = lowAt 4 4 r
 
 -- in seconds
 abbrev pub stepIn : List ℕ → Float
-stepIn r = ofBits binary32 (bitsIn r)
+stepIn r = f32 (bitsIn r)
 
 -- not "NaN, infinite, negative or -0": a finite number whose sign is not set
 abbrev pub isStep : Float → Bool

@@ -1,21 +1,22 @@
 // What the 8 bytes of a record say.
 ghost use mathlib.Core.Path.{_≡_};
 ghost use mathlib.Core.Bool.{false, cond};
-ghost use Prim.Native.Nat.{_+_, _*_};
+ghost use mathlib.Core.List.{[], _∷_};
 ghost use lib.Dec.{ltb};
+ghost use Rattle.math.specs.Bytes.{fromLow};
 ghost use Rattle.math.specs.Rounded.{zeroF};
 ghost use Rattle.event_log.specs.Writing.{numberAt};
 ghost use Rattle.reader.specs.Records.{bitsIn, stepIn, isWrong, eventIn};
 use event_log::Event;
 
 fn word(a: u8, b: u8) -> u16
-    ensures { λ r. ⌜ r ≡ a + b * 256 ⌝ }
+    ensures { λ r. ⌜ r ≡ fromLow (a ∷ b ∷ []) ⌝ }
 {
     (a as u16) + (b as u16) * 256
 }
 
 fn wide_word(a: u8, b: u8, c: u8, d: u8) -> u32
-    ensures { λ r. ⌜ r ≡ a + b * 256 + c * 65536 + d * 16777216 ⌝ }
+    ensures { λ r. ⌜ r ≡ fromLow (a ∷ b ∷ c ∷ d ∷ []) ⌝ }
 {
     (a as u32) + (b as u32) * 256 + (c as u32) * 65536 + (d as u32) * 16777216
 }

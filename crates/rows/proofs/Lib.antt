@@ -1,6 +1,5 @@
 -- Laws that the functions' proofs cite.
 pub mod Filled
-pub mod Floats
 pub mod Fronts
 pub mod Told
 pub mod Written

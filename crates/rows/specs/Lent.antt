@@ -3,8 +3,9 @@ use Prim.Native.Nat.{ℕ, _+_}
 use mathlib.Core.Bool.{cond}
 use mathlib.Core.List.{List}
 use lib.Dec.{ltb}
-use lib.Ieee.{Float, binary32, ofBits}
+use lib.Ieee.{Float}
 use lib.ListN.{replicate}
+use Rattle.math.specs.Rounded.{f32}
 use Rattle.rows.specs.Words.{wordAt, floatAt, firsts}
 
 -- a length among the words; 128 for one above
@@ -19,7 +20,7 @@ abbrev pub markWords : List ℕ
 markWords = replicate 128 mark
 
 abbrev pub markFloats : List Float
-markFloats = replicate 128 (ofBits binary32 mark)
+markFloats = replicate 128 (f32 mark)
 
 abbrev pub floatsAt : List ℕ → ℕ → List Float
 floatsAt words from = firsts (λ i. floatAt words (from + i)) 128

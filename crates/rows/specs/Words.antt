@@ -4,9 +4,10 @@ use mathlib.Core.List.{List, [], _∷_, _++_}
 use mathlib.Core.Path.{_≡_}
 use Prim.Native.Nat.{ℕ, zero, suc, _+_}
 use lib.Dec.{ltb}
-use lib.Ieee.{Float, binary32, eq, ofBits, toBits}
+use lib.Ieee.{Float, eq}
 use lib.ListN.{length, take, drop, getD, set, replicate}
-use Rattle.math.specs.Rounded.{zeroF}
+use Rattle.math.specs.Bits.{bitsOf}
+use Rattle.math.specs.Rounded.{f32, zeroF}
 use Rattle.rows.specs.declared.entries.Row.{Row}
 
 -- the word at a place; 0 behind the last
@@ -14,16 +15,16 @@ abbrev pub wordAt : List ℕ → ℕ → ℕ
 wordAt words at = getD words at 0
 
 abbrev pub floatAt : List ℕ → ℕ → Float
-floatAt words at = ofBits binary32 (wordAt words at)
+floatAt words at = f32 (wordAt words at)
 
 -- the first n of a sequence
 unfoldable pub firsts : {A : Type 0} → (ℕ → A) → ℕ → List A
 firsts f zero = []
 firsts f (suc n) = firsts f n ++ (f n ∷ [])
 
--- a float's pattern; a zero of either sign is 0, and every NaN has the pattern 0x7fc00000
+-- a float's bits; a zero of either sign is 0, and every NaN is 0x7fc00000
 unfoldable pub wordOf : Float → ℕ
-wordOf x = cond (eq x zeroF) 0 (toBits binary32 x)
+wordOf x = cond (eq x zeroF) 0 (bitsOf x)
 
 abbrev pub emptyRow : Row
 emptyRow = record { list = replicate 1024 0; count = 0 }

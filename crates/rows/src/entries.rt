@@ -1,7 +1,6 @@
 // Words of the list, and the floats in them.
 ghost use mathlib.Core.Path.{_≡_};
 ghost use Prim.Native.Nat.{_≤_};
-ghost use lib.Ieee.{binary32, ofBits};
 ghost use lib.ListN.{take};
 ghost use Rattle.rows.specs.Words.{wordAt, floatAt, wordOf, emptyRow, putOf, Rest, Tells};
 
@@ -12,20 +11,11 @@ pub fn word(words: [u32; 1024], at: usize) -> u32
     if at < 1024 { words[at] } else { 0 }
 }
 
-// The float of a pattern. Every NaN reads alike.
-pub fn float_of(bits: u32) -> f32
-    ensures { λ r. ⌜ r ≡ ofBits binary32 bits ⌝ }
-{
-    if 0x7f80_0000 < bits % 0x8000_0000 {
-        return 0.0 / 0.0;
-    }
-    f32::from_bits(bits)
-}
-
+// Every NaN reads alike.
 pub fn float_at(words: [u32; 1024], at: usize) -> f32
     ensures { λ r. ⌜ r ≡ floatAt words at ⌝ }
 {
-    float_of(word(words, at))
+    math::of_bits(word(words, at))
 }
 
 // The pattern of a float. A zero of either sign is written as +0, and every NaN alike.
@@ -35,10 +25,7 @@ pub fn float_word(x: f32) -> u32
     if x == 0.0 {
         return 0;
     }
-    if math::is_nan(x) {
-        return 0x7fc0_0000;
-    }
-    f32::to_bits(x)
+    math::bits(x)
 }
 
 // Words one behind the other: the first count of the list. Behind them it is 0.

@@ -7,7 +7,6 @@ ghost use Rattle.rows.specs.Words.{wordOf, putAll};
 ghost use Rattle.rows.specs.Lent.{lengthAt, markWords, markFloats, floatsAt, countWord};
 use crate::entries::Row;
 use crate::entries::float_at;
-use crate::entries::float_of;
 use crate::entries::put;
 use crate::entries::put_float;
 use crate::entries::word;
@@ -26,7 +25,7 @@ pub fn length_at(words: [u32; 1024], at: usize) -> usize
 pub fn marks() -> [f32; 128]
     ensures { λ r. ⌜ (length r ≡ 128) × (r ≡ markFloats) ⌝ }
 {
-    [float_of(MARK); 128]
+    [math::of_bits(MARK); 128]
 }
 
 pub fn mark_words() -> [u32; 128]

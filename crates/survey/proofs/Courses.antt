@@ -4,11 +4,12 @@ use mathlib.Core.Path.{_≡_, refl, ap, _∙_}
 use mathlib.Core.List.{List}
 use native.Mathlib.Omega.{arith}
 use lib.ListN.{length, take, drop, length-drop}
+use Rattle.math.specs.Lists.{split}
 use Rattle.refusal.specs.declared.Refusal.{Refusal}
 use Rattle.steps.specs.declared.run.Outcome.the-variants.{Finished, Refused}
 use Rattle.reader.specs.declared.hear.Replay.{Replay}
 use Rattle.reader.specs.declared.hear.Heard.the-variants.{Goes, Stops}
-use Rattle.reader.specs.Records.{split, recordsOf}
+use Rattle.reader.specs.Records.{recordsOf}
 use Rattle.reader.specs.Hearing.{heardOf}
 use Rattle.reader.proofs.Readings.{records-next}
 use Rattle.survey.specs.declared.survey.Counts.{Counts}
@@ -35,4 +36,4 @@ module _ (bytes : List ℕ) (s₀ : Replay) (k₀ : Counts) (s : Replay) (k : Co
   unfolding surveyOf split
   finishes h =
       let e : length (drop (i * 8) bytes) / 8 ≡ 0 = omega (arith, length-drop (i * 8) bytes) in
-      r .course-is ∙ ap (λ (n : ℕ). surveyOf (split n (drop (i * 8) bytes)) s k) e
+      r .course-is ∙ ap (λ (n : ℕ). surveyOf (split 8 n (drop (i * 8) bytes)) s k) e

@@ -5,6 +5,7 @@ use native.Mathlib.Omega.{arith}
 use borrow.Author.Tests.{le-leb, lt-leb}
 use denote.Ref.{now}
 use lib.ListN.{length}
+use Rattle.event_log.proofs.Logs.{number-read}
 use Rattle.event_log.proofs.writer.number_behind.Statement.{statement}
 use Rattle.event_log.proofs.writer.number_behind.Tie as tie
 
@@ -22,4 +23,4 @@ number-behind-spec =
     (λ c. omega (arith, c .shared-slice-known3 .given (length (now (c .before .before .before .before .args .log)) - 8 + 1)))
     (λ c. omega (arith, c .before .shared-slice-known2 .given (length (now (c .before .before .before .before .args .log)) - 8), c .shared-slice-known3 .given (length (now (c .before .before .before .before .args .log)) - 8 + 1)))
     (λ c κs. search needs)
-    (λ c. simp (le-leb _ _ (c .before .before .before .if1 .left), c .wrapping-add-u16 .ensures)))
+    (λ c. rw (le-leb _ _ (c .before .before .before .if1 .left), ← number-read (now (c .before .before .before .before .before .args .log)) (length (now (c .before .before .before .before .before .args .log)) - 8)) (c .wrapping-add-u16 .ensures)))

@@ -1,6 +1,6 @@
 -- `record_at` meets its contract. Assumes nothing.
 use borrow.Author.Needs.{needs}
-use Rattle.reader.proofs.Eights.{eight}
+use Rattle.math.proofs.Parts.{reads-part}
 use Rattle.reader.proofs.read.record_at.Statement.{statement}
 use Rattle.reader.proofs.read.record_at.Tie as tie
 
@@ -24,4 +24,4 @@ record-at-spec =
     (λ c. search needs)
     (λ c. search needs)
     (λ c. search needs)
-    (λ c. eight _ _ (c .before .before .before .before .before .before .before .before .pre)))
+    (λ c. reads-part 0 8 _ _ (c .before .before .before .before .before .before .before .before .pre)))

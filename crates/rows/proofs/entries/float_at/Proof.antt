@@ -9,4 +9,4 @@ float-at-spec =
     (tie.spec
     (λ c κs. search needs)
     (λ c κs. search needs)
-    (λ c. simp (c .float-of .ensures, c .before .word .ensures)))
+    (λ c. simp (c .of-bits .ensures, c .before .word .ensures)))

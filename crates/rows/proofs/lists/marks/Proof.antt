@@ -9,4 +9,4 @@ marks-spec =
     tie.close
     (tie.spec
     (λ c κs. search needs)
-    (λ c. (refl, rw (c .float-of .ensures) refl)))
+    (λ c. (refl, rw (c .of-bits .ensures) refl)))
