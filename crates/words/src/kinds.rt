@@ -1,6 +1,6 @@
 // An easing as six words: its kind's place in `all_named` from 0, up to four parameters and a count.
 ghost use mathlib.Core.Path.{_≡_};
-ghost use Rattle.words.specs.Kinds.{easingFrom, easingWords};
+ghost use Rattle.words.specs.Kinds.{isKind, easingFrom, easingWords};
 use easing::Easing;
 use easing::KINDS;
 use easing::Params;
@@ -26,10 +26,16 @@ pub enum EasingRead {
     Unknown,
 }
 
+pub fn is_kind(kind: u32) -> bool
+    ensures { λ r. ⌜ r ≡ isKind kind ⌝ }
+{
+    kind < KINDS
+}
+
 pub fn easing_of(w: LaxEasing) -> EasingRead
     ensures { λ r. ⌜ r ≡ easingFrom w ⌝ }
 {
-    if w.kind < KINDS {
+    if is_kind(w.kind) {
         let p = Params::new(w.a, w.b, w.c, w.d, w.count);
         return EasingRead::Known(Easing::of_number(w.kind, p));
     }

@@ -1,13 +1,13 @@
 // A track as words.
 ghost use mathlib.Core.Path.{_≡_};
 ghost use Prim.Native.Nat.{_≤_};
-ghost use Rattle.words.specs.Kinds.{isKind};
 ghost use Rattle.words.specs.Modes.{loopFrom};
 ghost use Rattle.words.specs.Tracks.{laxFrame, placesIn, loopIn, frameFrom, frameRead, framesFrom, trackFrom, knownTrack, frameWords, framesWords, trackWords};
 use crate::kinds::EasingRead;
 use crate::kinds::LaxEasing;
 use crate::kinds::easing_of;
 use crate::kinds::easing_words;
+use crate::kinds::is_kind;
 use crate::modes::LaxLoop;
 use crate::modes::LoopRead;
 use crate::modes::flag_word;
@@ -59,13 +59,6 @@ pub fn places(count: usize) -> usize
     ensures { λ r. ⌜ (r ≤ 64) × (r ≡ placesIn count) ⌝ }
 {
     if count < 64 { count } else { 64 }
-}
-
-// One of the 38.
-fn is_kind(kind: u32) -> bool
-    ensures { λ r. ⌜ r ≡ isKind kind ⌝ }
-{
-    kind < 38
 }
 
 // Whether every kind and the mode are known.
