@@ -25,7 +25,7 @@ extern "C" {
 #endif
 
 /* The header's version, the programs' and the Rust crate's. */
-#define LAX_VERSION "0.2.0"
+#define LAX_VERSION "0.3.0"
 
 /* The numbers of the refusals. */
 enum {

@@ -33,6 +33,7 @@ unsafe extern "C" {
     pub safe fn lax_track_new() -> LaxTrack;
     pub safe fn lax_track_push(t: LaxTrack, time: f32, value: f32) -> LaxTrackChanged;
     pub safe fn lax_track_push_eased(t: LaxTrack, time: f32, value: f32, e: LaxEasing) -> LaxTrackChanged;
+    pub safe fn lax_track_push_frame(t: LaxTrack, frame: LaxKeyframe) -> LaxTrackChanged;
     pub safe fn lax_track_looping(t: LaxTrack, mode: LaxLoop) -> LaxTrackChanged;
     pub safe fn lax_track_value_at(t: LaxTrack, secs: f32) -> LaxFound;
     pub safe fn lax_track_value(t: LaxTrack) -> LaxFound;

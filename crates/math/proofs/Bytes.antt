@@ -6,7 +6,7 @@ use native.Mathlib.Nat.{add-zero, mod-lt, mod-add-div', div-lt-iff-lt-mul, pow-s
 use native.Mathlib.Omega.{arith}
 use lib.ListN.{length, getD}
 use lib.Seq.{take-nil, drop-nil, take-at, drop-append-seam}
-use Rattle.math.specs.Bytes.{lowFirst, fromLow, lowAt, AreBytes}
+use Rattle.math.specs.Bytes.{lowFirst, fromLow, lowAt, AreBytes, LowBack, BytesBack}
 use Rattle.math.proofs.Parts.{readsFrom, reads, reads-plain}
 
 pub length-low : (k n : ℕ) → length (lowFirst k n) ≡ k
@@ -18,8 +18,7 @@ low-bytes zero n i = omega arith
 low-bytes (suc k) n zero = mod-lt n (omega arith)
 low-bytes (suc k) n (suc i) = low-bytes k (n / 256) i
 
--- a number is read back from bytes that are enough for it
-pub low-back : (k n : ℕ) → n < 256 ^ k → fromLow (lowFirst k n) ≡ n
+pub low-back : LowBack
 low-back zero n h = omega arith
 low-back (suc k) n h =
     ap (λ (m : ℕ). n % 256 + m * 256) (low-back k (n / 256) (div-lt-iff-lt-mul (omega arith) .1 (subst (λ (m : ℕ). n < m) (pow-suc 256 k) h)))
@@ -47,8 +46,7 @@ low-reads k i l = ap fromLow (reads-plain 0 k i l) ∙ from-low k 0 i l ∙ ap (
 head-byte : (b m : ℕ) → b < 256 → ((b + m * 256) % 256 ≡ b) × ((b + m * 256) / 256 ≡ m)
 head-byte b m h = (omega arith, omega arith)
 
--- bytes are the bytes of their number
-pub bytes-back : (l : List ℕ) → AreBytes l → lowFirst (length l) (fromLow l) ≡ l
+pub bytes-back : BytesBack
 bytes-back [] h = refl
 bytes-back (b ∷ l) h =
     let e = head-byte b (fromLow l) (h 0) in

@@ -58,6 +58,9 @@ impl TrackCall {
         match self {
             Push(..) | PushEased(..) | Looping(_) | Reset | SeekTo(_) => {
                 let ours = answered(name, self.change(t), self.changed(t))?;
+                if let Some(frame) = self.pushed() {
+                    same_bits("track push_frame", &lax_track_push_frame(*t, frame), &ours)?;
+                }
                 self.kept(ours.number, t, ours.track)
             }
             Update(step) => {
@@ -79,12 +82,7 @@ impl TrackCall {
 
     fn refused(&self, t: &LaxTrack) -> u32 {
         match self {
-            Push(time, value) => {
-                rules::push_refused(t, &LaxKeyframe::new(*time, *value, LaxEasing::default()))
-            }
-            PushEased(time, value, easing) => {
-                rules::push_refused(t, &LaxKeyframe::new(*time, *value, *easing))
-            }
+            Push(..) | PushEased(..) => self.pushed().map_or(0, |frame| rules::push_refused(t, &frame)),
             Looping(mode) => rules::looping_refused(t, mode),
             ValueAt(_) | Value => rules::sample_refused(t),
             ValuesAt { times, out } => rules::samples_refused(t, times.len(), *out),
@@ -93,6 +91,15 @@ impl TrackCall {
             ActiveTime | Duration | PlaybackDuration | Progress | IsComplete | Reset => {
                 rules::track_refused(t)
             }
+        }
+    }
+
+    /// The frame of a push.
+    fn pushed(&self) -> Option<LaxKeyframe> {
+        match self {
+            Push(time, value) => Some(LaxKeyframe::new(*time, *value, LaxEasing::default())),
+            PushEased(time, value, easing) => Some(LaxKeyframe::new(*time, *value, *easing)),
+            _ => None,
         }
     }
 
