@@ -1,6 +1,8 @@
 -- The cases of a push and of a change of mode. Assumes nothing.
 use mathlib.Core.Path.{_≡_}
-use mathlib.Core.Bool.{Bool, true, false}
+use mathlib.Core.Bool.{Bool, true, false, _&&_}
+use lib.Ieee.{Float}
+use Rattle.math.specs.Range.{isValue}
 use Rattle.math.proofs.Choice.{by-test}
 use Rattle.refusal.specs.declared.Refusal.{Refusal}
 use Rattle.refusal.specs.declared.Refusal.the-variants.{RecordBreaksLimit, EasingNotSupplied, EasingParameter, TrackLimit}
@@ -10,16 +12,22 @@ use Rattle.easing.specs.Params as params
 use Rattle.easing.specs.Apply.{fitsRecordOf}
 use Rattle.loop_mode.specs.declared.Loop.{Loop}
 use Rattle.frames.specs.declared.frame.Keyframe.{Keyframe}
+use Rattle.frames.specs.Limits.{isTime}
 use Rattle.frames.specs.Pushing.{putOf}
 use Rattle.keyframe.specs.declared.types.Track.{Track}
 use Rattle.keyframe.specs.declared.types.Changed.{Changed}
 use Rattle.keyframe.specs.Limits.{baseOf, modeFits, withinOf}
-use Rattle.keyframe.specs.Pushing.{refused, changed, storedOf, takesOf, withMode, placedOf, pushOf, loopingOf}
+use Rattle.keyframe.specs.Pushing.{refused, changed, storedOf, laterOf, takesOf, withMode, placedOf, pushOf, loopingOf}
 
 -- of a supplied kind the parameters are what is left to fit
 pub fits-params : (e : Easing) (b : Bool) → suppliedOf e ≡ true → fitsRecordOf e ≡ b → params.withinOf (params.paramsOf e) ≡ b
 unfolding fitsRecordOf
 fits-params e b s h = rw s at h
+
+-- what is taken, by a last time that is known
+pub takes-by : (t : Track) (k : Keyframe) (last : Float) (b : Bool) → last ≡ baseOf t → isTime (k .time) && isValue (k .value) && modeFits (t .looping) (laterOf last (k .time)) ≡ b → takesOf t k ≡ b
+unfolding takesOf
+takes-by t k last b e h = rw (← e) h
 
 module _ (t : Track) (k : Keyframe) where
   pub push-broken : withinOf t ≡ false → refused t RecordBreaksLimit ≡ pushOf t k

@@ -1,10 +1,13 @@
 // Frames pushed into a track, and a change of its mode.
 ghost use mathlib.Core.Path.{_≡_};
+ghost use mathlib.Core.Bool.{_&&_};
 ghost use Prim.Native.Nat.{_≤_};
 ghost use Rattle.easing.specs.declared.kinds.Easing.the-variants.{Linear};
-ghost use Rattle.frames.specs.Limits.{frameOf};
+ghost use Rattle.math.specs.Range.{isValue};
+ghost use Rattle.frames.specs.Limits.{frameOf, isTime};
 ghost use Rattle.frames.specs.Pushing.{putOf};
-ghost use Rattle.keyframe.specs.Pushing.{newTrack, storedOf, laterOf, takesOf, placedOf, pushOf, loopingOf};
+ghost use Rattle.keyframe.specs.Limits.{modeFits};
+ghost use Rattle.keyframe.specs.Pushing.{newTrack, storedOf, laterOf, placedOf, pushOf, loopingOf};
 use crate::handed::refuse;
 use crate::limits::last_time;
 use crate::limits::mode_fits;
@@ -31,13 +34,12 @@ fn later(base: f32, time: f32) -> f32
     if time < base { base } else { time }
 }
 
-// Whether the frame's time and value, and the total with it in, are within their limits.
-fn takes(track: Track, k: Keyframe) -> bool
-    requires { ⌜ track .count ≤ 64 ⌝ }
-    ensures { λ r. ⌜ r ≡ takesOf track k ⌝ }
+// Whether the frame's time and value, and the total with it in, are within their limits. last is the
+// last time of the track.
+fn takes(looping: Loop, last: f32, k: Keyframe) -> bool
+    ensures { λ r. ⌜ r ≡ (isTime (k .time) && isValue (k .value) && modeFits looping (laterOf last (k .time))) ⌝ }
 {
-    let looping = track.looping;
-    let base = later(last_time(track), k.time);
+    let base = later(last, k.time);
     frames::is_time(k.time) & math::is_value(k.value) & mode_fits(looping, base)
 }
 
@@ -107,7 +109,11 @@ impl Track {
             return refuse(self, Refusal::EasingParameter);
         }
         let frame = stored(k);
-        if !takes(self, frame) {
+        // Not by `last_time`, which would copy the track once more.
+        let n = self.count;
+        let last = if n == 0 { 0.0 } else { self.frames[n - 1].time };
+        let looping = self.looping;
+        if !takes(looping, last, frame) {
             return refuse(self, Refusal::TrackLimit);
         }
         place(self, frame)

@@ -1,11 +1,9 @@
 -- `takes` meets its contract, by what its callees ensure. Assumes nothing.
 use borrow.Author.Needs.{needs}
-use Rattle.keyframe.specs.Pushing.{takesOf}
 use Rattle.keyframe.proofs.pushes.takes.Statement.{statement}
 use Rattle.keyframe.proofs.pushes.takes.Tie as tie
 
 pub takes-spec : {M : Type 1} → statement M
-unfolding takesOf
 takes-spec =
     tie.close
     (tie.spec
@@ -13,6 +11,5 @@ takes-spec =
     (λ c κs. search needs)
     (λ c κs. search needs)
     (λ c κs. search needs)
-    (λ c κs. search needs)
     (λ c.
-    rw (c .mode-fits .ensures, c .before .is-value .ensures, c .before .before .is-time .ensures, c .before .before .before .later .ensures, c .before .before .before .before .last-time .ensures)))
+    rw (c .mode-fits .ensures, c .before .is-value .ensures, c .before .before .is-time .ensures, c .before .before .before .later .ensures)))
