@@ -1,4 +1,4 @@
--- Parts of a list, each of so many elements: the part at a place, and parts one behind the other. Assumes nothing.
+-- Parts of a list: read one element after the other; and cut into parts of one size, of which each has its place. Assumes nothing.
 use Prim.Native.Nat.{ℕ, zero, suc, _+_, _*_, _<_, _≤_}
 use mathlib.Core.Path.{_≡_, refl, sym, ap, _∙_}
 use mathlib.Core.List.{List, [], _∷_, _++_, flatten}

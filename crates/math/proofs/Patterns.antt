@@ -4,7 +4,7 @@ use mathlib.Core.Bool.{true, false, not, false≢true}
 use Prim.Native.Nat.{ℕ, _%_, _<_, _≤_}
 use borrow.Author.Tests.{lt-ltb, le-ltb}
 use lib.Dec.{T}
-use lib.Ieee.{Float, nan, inf, fin, binary32, isNan, ofBits, nanBits, toBits}
+use lib.Ieee.{Float, nan, inf, fin, binary32, isNan, nanBits, toBits}
 use lib.Ieee.Bits.{nanBits-is, nanBits-above, toBits-ofBits, ofBits-toBits}
 use Rattle.math.specs.Bits.{bitsOf, NanBits, PatternBack, FloatBack}
 use Rattle.math.specs.Rounded.{f32}
