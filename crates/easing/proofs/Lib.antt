@@ -2,7 +2,7 @@ pub mod Answering
 pub mod Constants
 pub mod Ends
 pub mod Finite
-pub mod Rest
+mod Rest
 pub mod Starts
 pub mod Tags
 pub mod Unchanged

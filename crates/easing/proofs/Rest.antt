@@ -2,9 +2,6 @@
 use Prim.Native.Nat.{ℕ, zero, suc, _≤_}
 use native.Mathlib.Omega.{arith}
 use mathlib.Core.Path.{_≡_}
-use mathlib.Core.Bool.{false}
-use borrow.Author.Tests.{le-ltb}
-use lib.Dec.{ltb}
 
 abbrev Rest : ℕ → ℕ → Type 0
 Rest zero x = Unit {0}
@@ -13,6 +10,3 @@ Rest (suc k) x = Rest k x × (x ≡ k → ⊥)
 pub at-least : (k x : ℕ) → Rest k x → k ≤ x
 at-least zero x r = omega arith
 at-least (suc k) x (r, h) = let a : k ≤ x = at-least k x r in omega (arith, h)
-
-pub none-left : (k x : ℕ) → Rest k x → ltb x k ≡ false
-none-left k x r = le-ltb x k (at-least k x r)

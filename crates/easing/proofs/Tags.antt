@@ -42,7 +42,7 @@ twelve = 13 ∷ 14 ∷ 15 ∷ 16 ∷ 17 ∷ 18 ∷ 25 ∷ 26 ∷ 27 ∷ 33 ∷ 3
 abbrev pub seven : List ℕ
 seven = 31 ∷ 32 ∷ 33 ∷ 34 ∷ 35 ∷ 36 ∷ 37 ∷ []
 
--- the parameters of e, without what its kind says of them
+-- the parameters of e, without the least count of its kind
 abbrev pub own : Easing → Params
 own e = let p = paramsOf e in params (p .a) (p .b) (p .c) (p .d) (p .count)
 
