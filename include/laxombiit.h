@@ -46,7 +46,7 @@ enum {
     LAX_STEP_BELOW_ZERO = 14,    /* the step to be logged is NaN or below 0 */
     LAX_WRONG_MARK = 15,         /* the log does not begin with PEL */
     LAX_UNKNOWN_VERSION = 16,    /* the log's version is not 1, or is cut short */
-    LAX_WRONG_LENGTH = 17,       /* the log is longer than its buffer, or ends within a record */
+    LAX_WRONG_LENGTH = 17,       /* the log ends within a record, or is longer than its buffer */
     LAX_WRONG_RECORD = 18,       /* the record's kind, zero byte or step is wrong */
     LAX_UNKNOWN_WORD = 100       /* a word is no kind, mode, state or event, or no number of a record */
 };
@@ -72,7 +72,7 @@ static inline const char *lax_refusal_text(uint32_t number)
     case LAX_STEP_BELOW_ZERO: return "the step to be logged is NaN or below 0";
     case LAX_WRONG_MARK: return "the log does not begin with PEL";
     case LAX_UNKNOWN_VERSION: return "the log's version is not 1, or is cut short";
-    case LAX_WRONG_LENGTH: return "the log is longer than its buffer, or ends within a record";
+    case LAX_WRONG_LENGTH: return "the log ends within a record, or is longer than its buffer";
     case LAX_WRONG_RECORD: return "the record's kind, zero byte or step is wrong";
     case LAX_UNKNOWN_WORD: return "a word is no kind, mode, state or event, or no number of a record";
     default: return "no refusal has this number";

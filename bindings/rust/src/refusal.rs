@@ -60,7 +60,7 @@ refusals! {
     14 StepBelowZero "the step to be logged is NaN or below 0"
     15 WrongMark "the log does not begin with PEL"
     16 UnknownVersion "the log's version is not 1, or is cut short"
-    17 WrongLength "the log is longer than its buffer, or ends within a record"
+    17 WrongLength "the log ends within a record, or is longer than its buffer"
     18 WrongRecord "the record's kind, zero byte or step is wrong"
 }
 

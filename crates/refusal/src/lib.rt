@@ -35,7 +35,7 @@ pub enum Refusal {
     WrongMark,
     // The log's version is not 1, or is cut short.
     UnknownVersion,
-    // The log is longer than its buffer, or ends within a record.
+    // The log ends within a record, or is longer than its buffer.
     WrongLength,
     // The record's kind, zero byte or step is wrong.
     WrongRecord,

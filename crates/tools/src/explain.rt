@@ -105,7 +105,7 @@ fn say_why(fd: i32, number: u32) {
         16 => say(fd, b"the log's version is not 1, or is cut short"),
         17 => say(
             fd,
-            b"the log is longer than its buffer, or ends within a record",
+            b"the log ends within a record, or is longer than its buffer",
         ),
         18 => say(fd, b"the record's kind, zero byte or step is wrong"),
         _ => say(fd, b"no refusal has this number"),
