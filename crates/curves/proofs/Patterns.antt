@@ -4,12 +4,13 @@ use mathlib.Core.Bool.{Bool, true, false, not, cond, false≢true}
 use Prim.Native.Nat.{ℕ, zero, suc, _+_, _*_, _/_, _%_, _^_, _<_, _≤_}
 use native.Mathlib.Nat.{zero-lt-suc, mod-eq-of-lt}
 use native.Mathlib.Omega.{arith}
-use borrow.Author.Tests.{leb-false, lt-leb, eqb-false, ne-eqb, le-ltb}
+use borrow.Author.Tests.{leb-false, lt-leb, eqb-false, ne-eqb}
 use lib.Dec.{T, leb, eqb}
 use lib.Ieee.{Float, nan, inf, binary32, odd, lt, le, eq, fits, ofFields, ofBits, nanBits, toBits}
-use lib.Ieee.Bits.{ofBits-toBits, toBits-lt, nanBits-above}
+use lib.Ieee.Bits.{ofBits-toBits, toBits-lt}
 use lib.Ieee.Exact.{HasValue, odd-sign}
 use Rattle.math.specs.Rounded.{zeroF, oneF}
+use Rattle.math.proofs.Patterns as patterns
 use Rattle.curves.specs.Root.{floatAt}
 
 -- what a field and digits say of x, which is above 0 and at most 1: a field of 0 has no leading digit
@@ -89,7 +90,4 @@ module _ (j q : ℕ) (few : j < 254) (least : 0x80_0000 ≤ q) (most : q < 0x100
       rw (s, E, z, t)
 
   pub no-nan : T (not (nanBits binary32 (j * 0x80_0000 + q)))
-  no-nan =
-      let b = j * 0x80_0000 + q in
-      let h : b % 0x8000_0000 ≤ 0x7f80_0000 = omega arith in
-      rw (nanBits-above binary32 b, le-ltb 0x7f80_0000 (b % 0x8000_0000) h) tt
+  no-nan = patterns.no-nan (j * 0x80_0000 + q) (omega arith)

@@ -5,7 +5,8 @@ use mathlib.Core.Bool.{Bool, true, false, _&&_, cond}
 use mathlib.Core.List.{List, [], _∷_, map, List·Memᴰ}
 use lib.Dec.{eqb}
 use lib.ListN.{length, getD}
-use lib.Ieee.{Float, binary32, eq, toBits}
+use lib.Ieee.{Float, eq}
+use Rattle.math.specs.Bits.{bitsOf}
 use Rattle.math.specs.Rounded.{zeroF, oneF}
 use Rattle.easing.specs.declared.kinds.Easing.{Easing}
 use Rattle.easing.specs.declared.kinds.Easing.the-variants.{Linear}
@@ -42,7 +43,7 @@ Ends = (e : Easing) → List·Memᴰ e (suppliedIn allNamed) → ended e ≡ tru
 
 -- by bits; 1, which is no zero's pattern, for a refusal
 abbrev pub bits : Eased → ℕ
-bits (Value f) = toBits binary32 (f .value)
+bits (Value f) = bitsOf (f .value)
 bits (Refused r) = 1
 
 abbrev pub at : Float → List Easing → List ℕ
