@@ -35,11 +35,12 @@ batchCount t times out = unless (eqb (batchNumber t times out) 0) 0 (length time
 unfoldable pub batchUnsettled : Track → List Float → List Float → ℕ
 batchUnsettled t times out = unless (eqb (batchNumber t times out) 0) 0 (unsettledOf (framesIn t) times)
 
--- what is answered beside the lent output, and where the call is refused
+-- the answer beside the lent output: the length of the front, request 1's count, "The refusal number, 0 for none"
 abbrev pub batchAnswer : Track → List Float → List Float → Filled
 batchAnswer t times out =
     record { filled = batchCount t times out; unsettled = batchUnsettled t times out; refusal = batchNumber t times out }
 
+-- "a refused call hands back an empty front"
 abbrev pub noneFilled : Refusal → Filled
 noneFilled r = record { filled = 0; unsettled = 0; refusal = numberOf r }
 

@@ -86,7 +86,7 @@ impl Track {
         self.push_frame(Keyframe::new(time, value, Easing::Linear))
     }
 
-    // Refused as `push_frame` refuses.
+    // The same with an easing.
     pub fn push_eased(self, time: f32, value: f32, easing: Easing) -> Changed
         ensures { λ r. ⌜ r ≡ pushOf self (frameOf time value easing) ⌝ }
     {
