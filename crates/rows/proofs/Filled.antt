@@ -6,7 +6,7 @@ use native.Mathlib.Numerals.{add-one}
 use native.Mathlib.Omega.{arith}
 use lib.ListN.{length, drop, getD, set, length-append}
 use lib.Seq.{drop-cons, set-at}
-use Rattle.rows.specs.Words.{firsts}
+use Rattle.math.specs.Lists.{firsts}
 
 module _ {A : Type 0} (f : ℕ → A) where
   length-firsts : (n : ℕ) → length (firsts f n) ≡ n

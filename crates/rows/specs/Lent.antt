@@ -6,7 +6,8 @@ use lib.Dec.{ltb}
 use lib.Ieee.{Float}
 use lib.ListN.{replicate}
 use Rattle.math.specs.Rounded.{f32}
-use Rattle.rows.specs.Words.{wordAt, floatAt, firsts}
+use Rattle.math.specs.Lists.{firsts}
+use Rattle.words.specs.Lent.{wordAt, floatAt}
 
 -- a length among the words; 128 for one above
 abbrev pub lengthAt : List ℕ → ℕ → ℕ

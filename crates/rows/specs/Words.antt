@@ -1,26 +1,14 @@
 -- Words one behind the other, a float as one of them, and what it means that two lists of words agree.
 use mathlib.Core.Bool.{Bool, true, cond}
-use mathlib.Core.List.{List, [], _∷_, _++_}
+use mathlib.Core.List.{List, [], _∷_}
 use mathlib.Core.Path.{_≡_}
-use Prim.Native.Nat.{ℕ, zero, suc, _+_}
+use Prim.Native.Nat.{ℕ, _+_}
 use lib.Dec.{ltb}
 use lib.Ieee.{Float, eq}
-use lib.ListN.{length, take, drop, getD, set, replicate}
+use lib.ListN.{length, take, drop, set, replicate}
 use Rattle.math.specs.Bits.{bitsOf}
-use Rattle.math.specs.Rounded.{f32, zeroF}
+use Rattle.math.specs.Rounded.{zeroF}
 use Rattle.rows.specs.declared.entries.Row.{Row}
-
--- the word at a place; 0 behind the last
-abbrev pub wordAt : List ℕ → ℕ → ℕ
-wordAt words at = getD words at 0
-
-abbrev pub floatAt : List ℕ → ℕ → Float
-floatAt words at = f32 (wordAt words at)
-
--- the first n of a sequence
-unfoldable pub firsts : {A : Type 0} → (ℕ → A) → ℕ → List A
-firsts f zero = []
-firsts f (suc n) = firsts f n ++ (f n ∷ [])
 
 -- a float's bits; a zero of either sign is 0, and every NaN is 0x7fc00000
 unfoldable pub wordOf : Float → ℕ

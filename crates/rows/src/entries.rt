@@ -2,7 +2,8 @@
 ghost use mathlib.Core.Path.{_≡_};
 ghost use Prim.Native.Nat.{_≤_};
 ghost use lib.ListN.{take};
-ghost use Rattle.rows.specs.Words.{wordAt, floatAt, wordOf, emptyRow, putOf, Rest, Tells};
+ghost use Rattle.words.specs.Lent.{wordAt, floatAt};
+ghost use Rattle.rows.specs.Words.{wordOf, emptyRow, putOf, Rest, Tells};
 
 // The word at a place; 0 behind the last.
 pub fn word(words: [u32; 1024], at: usize) -> u32

@@ -1,7 +1,8 @@
 // Records out of the words of the list.
 ghost use mathlib.Core.Path.{_≡_};
 ghost use Prim.Native.Nat.{_≤_, _<_};
-ghost use Rattle.rows.specs.Records.{easingAt, loopAt, tweenIn, frameAt, framesAt, trackIn};
+ghost use Rattle.words.specs.Lent.{easingAt, loopAt, tweenIn, frameAt};
+ghost use Rattle.rows.specs.Records.{framesAt, trackIn};
 use crate::entries::float_at;
 use crate::entries::word;
 use words::LaxEasing;

@@ -1,6 +1,6 @@
 -- `frame_at` meets its contract, by what its callees ensure. Assumes nothing.
 use borrow.Author.Needs.{needs}
-use Rattle.rows.specs.Records.{frameAt}
+use Rattle.words.specs.Lent.{frameAt}
 use Rattle.rows.proofs.given.frame_at.Statement.{statement}
 use Rattle.rows.proofs.given.frame_at.Tie as tie
 

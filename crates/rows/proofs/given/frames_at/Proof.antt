@@ -5,8 +5,9 @@ use mathlib.Core.List.{[], _++_}
 use native.Mathlib.Omega.{arith}
 use borrow.Author.Needs.{needs}
 use lib.ListN.{length, drop, replicate, length-set}
-use Rattle.rows.specs.Words.{firsts}
-use Rattle.rows.specs.Records.{frameAt, framesAt}
+use Rattle.math.specs.Lists.{firsts}
+use Rattle.words.specs.Lent.{frameAt}
+use Rattle.rows.specs.Records.{framesAt}
 use Rattle.rows.proofs.Filled.{fill-none, fill-one}
 use Rattle.rows.proofs.given.frames_at.Statement.{statement}
 use Rattle.rows.proofs.given.frames_at.Tie as tie

@@ -1,6 +1,6 @@
 -- `tween_in` meets its contract, by what its callees ensure. Assumes nothing.
 use borrow.Author.Needs.{needs}
-use Rattle.rows.specs.Records.{tweenIn}
+use Rattle.words.specs.Lent.{tweenIn}
 use Rattle.rows.proofs.given.tween_in.Statement.{statement}
 use Rattle.rows.proofs.given.tween_in.Tie as tie
 

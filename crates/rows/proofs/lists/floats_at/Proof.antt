@@ -5,7 +5,8 @@ use mathlib.Core.List.{_++_, append-nil}
 use native.Mathlib.Omega.{arith}
 use borrow.Author.Needs.{needs}
 use lib.ListN.{length, drop, length-set}
-use Rattle.rows.specs.Words.{floatAt, firsts}
+use Rattle.math.specs.Lists.{firsts}
+use Rattle.words.specs.Lent.{floatAt}
 use Rattle.rows.proofs.Filled.{fill-none, fill-one}
 use Rattle.rows.proofs.lists.floats_at.Statement.{statement}
 use Rattle.rows.proofs.lists.floats_at.Tie as tie
