@@ -1,16 +1,16 @@
 -- What `rem` is on patterns: of significands and powers of 2, as whole numbers. Assumes nothing.
 use Prim.Native.Nat.{ℕ, zero, suc, _+_, _-_, _*_, _/_, _%_, _^_, _≤_, _<_, compare, Ordering, Ordering·lt, compare·zero-suc}
-use native.Mathlib.Nat.{zero-mul, mul-assoc, mul-comm, mul-left-comm, mul-pos, mul-div-cancel, mul-mod-left, mul-add-mod-self-right, mul-le-mul-right, mul-lt-mul-of-pos-right, mod-eq-of-lt, mod-lt, div-add-mod', lt-irrefl, le-trans, le-of-eq, lt-of-lt-of-le, le-of-suc-le-suc, lt-of-not-le, eq-or-lt-of-le}
+use native.Mathlib.Nat.{zero-mul, mul-assoc, mul-comm, mul-pos, mul-div-cancel, mul-mod-left, mul-add-mod-self-right, mul-le-mul-right, mul-lt-mul-of-pos-right, mod-eq-of-lt, mod-lt, div-add-mod', lt-irrefl, le-trans, le-of-eq, lt-of-lt-of-le, le-of-suc-le-suc, lt-of-not-le, eq-or-lt-of-le}
 use native.Mathlib.Omega.{arith}
 use mathlib.Core.Path.{_≡_, refl, sym, ap, _∙_, subst, subst⁻¹}
 use mathlib.Core.Logic.{⊎-elim}
 use mathlib.Core.Bool.{Bool, true, false, cond}
-use lib.Dec.{T, leb, eqb}
+use lib.Dec.{T, leb}
 use lib.Pow.{pow-add, pow-pos, pow-mono, shl-lt}
 use lib.Count.{leadingZeros, leading-top}
 use borrow.Author.Tests.{ne-eqb}
-use lib.IntN.{ℤ, pos}
-use lib.Ieee.{Float, nan, inf, fin, Format, binary32, up, down, size, nearest, units, round, rem, fits, ofBits}
+use lib.IntN.{pos}
+use lib.Ieee.{Float, nan, inf, fin, binary32, up, down, size, nearest, units, round, rem, fits, ofBits}
 use lib.Ieee.Bits.{ofBits-toBits, toBits-lt}
 use lib.Ieee.Digits.{size-lt, size-le}
 use lib.Ieee.Fits.{core, round-is, down-pos}
@@ -250,10 +250,15 @@ read-back x n h e = ap (ofBits binary32) (sym (signed n (pattern-lt x n h e)) �
 resigned : (n c a p : ℕ) → n ≡ c + a → n - a + p ≡ c + p
 resigned n c a p e = omega arith
 
-module _ (x y : Float) (h : T (fits binary32 x)) (k : T (fits binary32 y)) (n m : ℕ) (e : n ≡ bitsOf x) (f : m ≡ bitsOf y) where
+pub record Patterns (x y : Float) (n m : ℕ) : Type 0 where
+  pub held : T (fits binary32 x) × T (fits binary32 y)
+  pub of-x : n ≡ bitsOf x
+  pub of-y : m ≡ bitsOf y
+
+module _ {x y : Float} {n m : ℕ} (known : Patterns x y n m) where
   -- what holds of the floats read holds of x and y
   of-reads : (P : Float → Float → Type 0) → P (ofBits binary32 (with-sign (leb 0x8000_0000 n) (n % 0x8000_0000))) (ofBits binary32 (with-sign (leb 0x8000_0000 m) (m % 0x8000_0000))) → P x y
-  of-reads P p = subst (λ (z : Float). P z y) (read-back x n h e) (subst (P (ofBits binary32 (with-sign (leb 0x8000_0000 n) (n % 0x8000_0000)))) (read-back y m k f) p)
+  of-reads P p = subst (λ (z : Float). P z y) (read-back x n (known .held .0) (known .of-x)) (subst (P (ofBits binary32 (with-sign (leb 0x8000_0000 n) (n % 0x8000_0000)))) (read-back y m (known .held .1) (known .of-y)) p)
 
   pub by-nan : 0x7f80_0000 < m % 0x8000_0000 → y ≡ rem binary32 x y
   by-nan l = of-reads (λ x y. y ≡ rem binary32 x y) (over-nan-read (leb 0x8000_0000 m) (m % 0x8000_0000) _ l (omega arith))
@@ -280,7 +285,7 @@ module _ (x y : Float) (h : T (fits binary32 x)) (k : T (fits binary32 y)) (n m 
       let d = digitsOf b in
       let w : r ≡ digitsOf a * 2 ^ (unitsOf a - unitsOf b) % d =
       u ∙ ap (λ (z : ℕ). (a - z * 8388608) * 2 ^ (z - low) % (b - low * 8388608)) i ∙ ap (λ (z : ℕ). digitsOf a * 2 ^ (unitsOf a - z) % (b - z * 8388608)) j in
-      ap (ofBits binary32) (resigned n (cond s 0x8000_0000 0) a p (signed n (pattern-lt x n h e)))
+      ap (ofBits binary32) (resigned n (cond s 0x8000_0000 0) a p (signed n (pattern-lt x n (known .held .0) (known .of-x))))
       ∙ v s
       ∙ ap (λ (z : ℕ). round binary32 s (z * 2 ^ low) (2 ^ 149)) w
       ∙ ap (λ (z : ℕ). round binary32 s (digitsOf a * 2 ^ (unitsOf a - unitsOf b) % d * 2 ^ z) (2 ^ 149)) j

@@ -19,7 +19,7 @@ fn units(n: u32) -> u32
     field - 1
 }
 
-// What q * 2^shift leaves over d, 40 binary digits a turn: seven turns at most.
+// What q * 2^shift leaves over d, 40 binary digits a turn: for two floats seven turns at most.
 fn reduced(q: u32, shift: u32, d: u32) -> u32
     requires { ⌜ (q < 16777216) × (0 < d) × (d < 16777216) ⌝ }
     ensures { λ r. ⌜ r ≡ q * 2 ^ shift % d ⌝ }

@@ -1,13 +1,12 @@
 -- `remainder` meets its contract: each way out is told by the patterns of x and y. Assumes nothing.
-use mathlib.Core.Path.{_≡_, refl, sym, _∙_}
-use Prim.Native.Nat.{ℕ, _-_, _*_, _%_, _^_, _<_, _≤_}
+use mathlib.Core.Path.{_≡_, refl, _∙_}
+use Prim.Native.Nat.{_-_, _*_, _%_, _^_, _<_, _≤_}
 use native.Mathlib.Nat.{mod-lt}
 use native.Mathlib.Omega.{arith}
 use borrow.Author.Needs.{needs}
 use denote.Floats.{passes}
-use lib.Dec.{T}
-use lib.Ieee.{nan, binary32, div, fits, ofBits}
-use Rattle.math.proofs.Remainders.{by-nan, by-larger, of-endless, by-zero, by-smaller}
+use lib.Ieee.{nan, binary32, div, ofBits}
+use Rattle.math.proofs.Remainders.{Patterns, by-nan, by-larger, of-endless, by-zero, by-smaller}
 use Rattle.math.proofs.division.remainder.Statement.{statement}
 use Rattle.math.proofs.division.remainder.Tie as tie
 
@@ -15,8 +14,12 @@ no-number : div binary32 (ofBits binary32 0) (ofBits binary32 0) ≡ nan
 unfolding div ofBits
 no-number = refl
 
-held : (c : tie.Start) → T (fits binary32 (c .args .x)) × T (fits binary32 (c .args .y))
-held c = (passes _ (c .good .0 .1), passes _ (c .good .1 .0 .1))
+known : (c : tie.After-bits2) → Patterns (c .before .before .args .x) (c .before .before .args .y) (c .before .bits .result) (c .bits2 .result)
+known c = record {
+  held = (passes _ (c .before .before .good .0 .1), passes _ (c .before .before .good .1 .0 .1));
+  of-x = c .before .bits .ensures;
+  of-y = c .bits2 .ensures;
+}
 
 pub remainder-spec : {M : Type 1} → statement M
 remainder-spec =
@@ -24,21 +27,10 @@ remainder-spec =
     (tie.spec
     (λ c κs. search needs)
     (λ c κs. search needs)
-    (λ c.
-    let s = c .before .before .before in
-    by-nan (s .args .x) (s .args .y) (held s .0) (held s .1) (c .before .before .bits .result) (c .before .bits2 .result) (c .before .before .bits .ensures) (c .before .bits2 .ensures) (c .if1 .taken))
-    (λ c.
-    let d = c .before .before in
-    let s = d .before .before in
-    by-larger (s .args .x) (s .args .y) (held s .0) (held s .1) (d .before .bits .result) (d .bits2 .result) (d .before .bits .ensures) (d .bits2 .ensures) (c .if2 .taken) (c .before .if1 .left))
-    (λ c.
-    let d = c .before .before .before in
-    let s = d .before .before in
-    no-number ∙ of-endless (s .args .x) (s .args .y) (held s .0) (held s .1) (d .before .bits .result) (d .bits2 .result) (d .before .bits .ensures) (d .bits2 .ensures) (c .if3 .taken))
-    (λ c.
-    let d = c .before .before .before .before in
-    let s = d .before .before in
-    no-number ∙ by-zero (s .args .x) (s .args .y) (held s .0) (held s .1) (d .before .bits .result) (d .bits2 .result) (d .before .bits .ensures) (d .bits2 .ensures) (omega arith) (c .if4 .taken))
+    (λ c. by-nan (known (c .before)) (c .if1 .taken))
+    (λ c. by-larger (known (c .before .before)) (c .if2 .taken) (c .before .if1 .left))
+    (λ c. no-number ∙ of-endless (known (c .before .before .before)) (c .if3 .taken))
+    (λ c. no-number ∙ by-zero (known (c .before .before .before .before)) (omega arith) (c .if4 .taken))
     (λ c κs. search needs)
     (λ c κs. search needs)
     (λ c. search needs)
@@ -61,9 +53,7 @@ remainder-spec =
     (λ c κs. search needs)
     (λ c.
     let u = c .before .before .before in
-    let d = u .before .before .before .before .before .before in
-    let s = d .before .before in
+    let d = u .before .before in
     c .of-bits .ensures
-    ∙ by-smaller (s .args .x) (s .args .y) (held s .0) (held s .1) (d .before .bits .result) (d .bits2 .result) (d .before .bits .ensures) (d .bits2 .ensures)
-    (u .before .units .result) (u .units2 .result) (c .before .before .reduced .result) (c .before .pattern .result)
-    (omega (arith, u .before .before .if4 .left)) (u .before .before .before .before .if2 .left) (omega (arith, u .before .before .before .if3 .left)) (u .before .units .ensures) (u .units2 .ensures) (c .before .before .reduced .ensures) (c .before .pattern .ensures .1)))
+    ∙ by-smaller (known (d .before .before .before .before)) (u .before .units .result) (u .units2 .result) (c .before .before .reduced .result) (c .before .pattern .result)
+    (omega (arith, d .if4 .left)) (d .before .before .if2 .left) (omega (arith, d .before .if3 .left)) (u .before .units .ensures) (u .units2 .ensures) (c .before .before .reduced .ensures) (c .before .pattern .ensures .1)))
