@@ -1,7 +1,0 @@
-pub mod Answers
-pub mod Easings
-pub mod Logs
-pub mod Replays
-pub mod TrackAnswers
-pub mod Tracks
-pub mod Tweens
