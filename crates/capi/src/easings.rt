@@ -1,4 +1,7 @@
 // The calls of an easing, lent as six words.
+ghost use mathlib.Core.Path.{_≡_};
+ghost use Rattle.capi.specs.Answers.{answering};
+ghost use Rattle.capi.specs.Easings.{laxEasingApply, laxEasingEq, laxEasingIsSupplied, laxEasingNamed};
 use crate::answers::UNKNOWN_WORD;
 use crate::answers::put_flag;
 use crate::answers::put_found;
@@ -12,6 +15,7 @@ use words::easing_words;
 
 #[no_mangle]
 pub extern "C" fn lax_easing_apply(e: &[u32; 6], t: f32, out: &mut [u32; 4]) -> u32
+    ensures { λ r. ⌜ answering r (now (out .exit)) ≡ laxEasingApply (now (e .entry)) t (now (out .entry)) ⌝ }
 {
     match easing_of(easing_in(e)) {
         EasingRead::Known(easing) => put_found(easing.apply(Progress(t)), out),
@@ -21,6 +25,7 @@ pub extern "C" fn lax_easing_apply(e: &[u32; 6], t: f32, out: &mut [u32; 4]) -> 
 
 #[no_mangle]
 pub extern "C" fn lax_easing_eq(x: &[u32; 6], y: &[u32; 6], out: &mut u32) -> u32
+    ensures { λ r. ⌜ answering r (now (out .exit)) ≡ laxEasingEq (now (x .entry)) (now (y .entry)) (now (out .entry)) ⌝ }
 {
     let EasingRead::Known(left) = easing_of(easing_in(x)) else {
         return UNKNOWN_WORD;
@@ -36,6 +41,7 @@ pub extern "C" fn lax_easing_eq(x: &[u32; 6], y: &[u32; 6], out: &mut u32) -> u3
 
 #[no_mangle]
 pub extern "C" fn lax_easing_is_supplied(e: &[u32; 6], out: &mut u32) -> u32
+    ensures { λ r. ⌜ answering r (now (out .exit)) ≡ laxEasingIsSupplied (now (e .entry)) (now (out .entry)) ⌝ }
 {
     match easing_of(easing_in(e)) {
         EasingRead::Known(easing) => put_flag(easing.is_supplied(), out),
@@ -46,6 +52,7 @@ pub extern "C" fn lax_easing_is_supplied(e: &[u32; 6], out: &mut u32) -> u32
 // The easing at a place of all_named, from 0 to 37, with the source's parameters.
 #[no_mangle]
 pub extern "C" fn lax_easing_named(place: u32, out: &mut [u32; 6]) -> u32
+    ensures { λ r. ⌜ answering r (now (out .exit)) ≡ laxEasingNamed place (now (out .entry)) ⌝ }
 {
     if place < 38 {
         let named = Easing::all_named();

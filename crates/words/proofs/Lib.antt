@@ -1,4 +1,4 @@
-mod Fitting
+pub mod Fitting
 mod Known
 pub mod Quick
 pub mod ReadBack
