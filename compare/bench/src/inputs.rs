@@ -43,10 +43,11 @@ pub fn tween(easing: &Easing, duration: f32, elapsed: f32) -> LaxTween {
     }
 }
 
-/// A linear tween, and steps each of which folds it so many times. The first leaves it at 0.
-pub fn stepping(folds: u32, count: usize) -> (LaxTween, Vec<f32>) {
+/// A linear tween in a mode, and steps each of which folds it so many times. The first leaves it at 0.
+pub fn stepping(mode: u32, folds: u32, count: usize) -> (LaxTween, Vec<f32>) {
     let duration = if folds == 0 { count as f32 } else { 1.0 };
-    let first = tween(&Easing::Linear, duration, 0.0);
+    let looping = LaxLoop { mode, passes: 60_000 };
+    let first = LaxTween { looping, ..tween(&Easing::Linear, duration, 0.0) };
     let (mut chance, mut moving) = (Chance::new(), first);
     let steps = (0..count).map(|_| {
         let step = match folds {
