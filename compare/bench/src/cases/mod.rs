@@ -35,7 +35,7 @@ pub fn growing() -> Vec<Vec<Case>> {
 /// Of a CubicBezier, applied or in a tween's value.
 const BEZIER_BAR: f64 = 1.5;
 
-const BEZIER: Easing = Easing::CubicBezier(0.25, 0.1, 0.25, 1.0);
+pub const BEZIER: Easing = Easing::CubicBezier(0.25, 0.1, 0.25, 1.0);
 
 fn name_of(easing: &Easing) -> String {
     let shown = format!("{easing:?}");
