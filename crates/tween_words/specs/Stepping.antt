@@ -49,6 +49,7 @@ SlidesTo ws x (Folded e n f) = Steps ws x 1 true (set (set (set ws 13 (bitsOf e)
 SlidesTo ws x (Ended n f) = Steps ws x 1 false (set (set (set (set ws 13 (wordAt ws 2)) 15 3) 16 n) 17 f)
 SlidesTo ws x Unsure = Unit {0}
 
-abbrev pub StepsTo : List ℕ → Float → Stepped → List ℕ → Type 0
-StepsTo ws x (stepped.Ran folds running) after = Steps ws x folds running after
-StepsTo ws x stepped.Unsure after = after ≡ ws
+-- these are the words afterwards
+abbrev pub StepsTo : List ℕ → Float → List ℕ → Stepped → Type 0
+StepsTo ws x after (stepped.Ran folds running) = Steps ws x folds running after
+StepsTo ws x after stepped.Unsure = after ≡ ws

@@ -5,6 +5,6 @@ mod stepping;
 mod valuing;
 
 pub use stepping::Stepped;
-pub use stepping::step;
+pub use stepping::step_on;
 pub use valuing::Valued;
 pub use valuing::value;

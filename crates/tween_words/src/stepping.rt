@@ -159,8 +159,8 @@ fn slide(w: &[u32; 18], secs: f32) -> Slid
 }
 
 // Unsure: no word is changed.
-pub fn step(w: &mut [u32; 18], secs: f32) -> Stepped
-    ensures { λ r. ⌜ StepsTo (now (w .entry)) secs r (now (w .exit)) ⌝ }
+pub fn step_on(w: &mut [u32; 18], secs: f32) -> Stepped
+    ensures { λ r. ⌜ StepsTo (now (w .entry)) secs (now (w .exit)) r ⌝ }
 {
     match slide(w, secs) {
         Slid::To(e) => {

@@ -1,12 +1,12 @@
--- `step` meets its contract, by what its callees ensure. Assumes nothing.
+-- `step_on` meets its contract, by what its callees ensure. Assumes nothing.
 use mathlib.Core.Path.{subst}
 use Rattle.tween_words.specs.Stepping.{SlidesTo}
 use borrow.Author.Needs.{needs}
-use Rattle.tween_words.proofs.stepping.step.Statement.{statement}
-use Rattle.tween_words.proofs.stepping.step.Tie as tie
+use Rattle.tween_words.proofs.stepping.step_on.Statement.{statement}
+use Rattle.tween_words.proofs.stepping.step_on.Tie as tie
 
-pub step-spec : {M : Type 1} → statement M
-step-spec =
+pub step-on-spec : {M : Type 1} → statement M
+step-on-spec =
     tie.close
     (tie.spec
     (λ c κs. search needs)
