@@ -1,1 +1,2 @@
+mod Quick
 mod Runs

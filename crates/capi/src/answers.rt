@@ -1,8 +1,9 @@
 // What a call writes into the places that it is lent, and the number that it answers. A refused call
 // writes none of them.
 ghost use mathlib.Core.Path.{_≡_};
+ghost use Rattle.bezier.specs.Bezier.{plainOf};
 ghost use Rattle.steps.specs.Course.{outcomeNumber};
-ghost use Rattle.capi.specs.Answers.{answering, foundIn, secondsIn, progressIn, flagIn};
+ghost use Rattle.capi.specs.Answers.{answering, accepted, foundWords, foundIn, secondsIn, progressIn, flagIn};
 ghost use Rattle.capi.specs.Tweens.{snapshotIn, changedIn};
 use easing::Eased;
 use steps::Outcome;
@@ -31,6 +32,14 @@ pub fn put_found(a: Eased, out: &mut [u32; 4]) -> u32
         }
         Eased::Refused(refusal) => refusal.number(),
     }
+}
+
+// A value with no search.
+pub fn put_plain(value: f32, out: &mut [u32; 4]) -> u32
+    ensures { λ r. ⌜ answering r (now (out .exit)) ≡ accepted (foundWords (plainOf value)) ⌝ }
+{
+    *out = [math::bits(value), 1, 0, 0];
+    0
 }
 
 pub fn put_flag(b: bool, out: &mut u32) -> u32

@@ -5,22 +5,45 @@ ghost use Rattle.capi.specs.Easings.{laxEasingApply, laxEasingEq, laxEas
 use crate::answers::UNKNOWN_WORD;
 use crate::answers::put_flag;
 use crate::answers::put_found;
+use crate::answers::put_plain;
+use easing::Eased;
 use easing::Easing;
 use easing::Equality;
+use easing_words::Drawn;
+use easing_words::Searched;
+use easing_words::draw;
+use easing_words::search;
 use units::Progress;
 use words::EasingRead;
 use words::easing_in;
 use words::easing_of;
 use words::easing_words;
 
-#[no_mangle]
-pub extern "C" fn lax_easing_apply(e: &[u32; 6], t: f32, out: &mut [u32; 4]) -> u32
+// By way of the library's easing.
+fn apply_in(e: &[u32; 6], t: f32, out: &mut [u32; 4]) -> u32
     ensures { λ r. ⌜ answering r (now (out .exit)) ≡ laxEasingApply (now (e .entry)) t (now (out .entry)) ⌝ }
 {
     match easing_of(easing_in(e)) {
         EasingRead::Known(easing) => put_found(easing.apply(Progress(t)), out),
         EasingRead::Unknown => UNKNOWN_WORD,
     }
+}
+
+#[no_mangle]
+pub extern "C" fn lax_easing_apply(e: &[u32; 6], t: f32, out: &mut [u32; 4]) -> u32
+    ensures { λ r. ⌜ answering r (now (out .exit)) ≡ laxEasingApply (now (e .entry)) t (now (out .entry)) ⌝ }
+{
+    if math::is_nan(t) {
+        return apply_in(e, t, out);
+    }
+    let u = math::clamp01(t);
+    if let Drawn::At(v) = draw(e[0], u) {
+        return put_plain(v, out);
+    }
+    if let Searched::At(found) = search(e[0], e[1], e[2], e[3], e[4], u) {
+        return put_found(Eased::Value(found), out);
+    }
+    apply_in(e, t, out)
 }
 
 #[no_mangle]

@@ -6,14 +6,20 @@ ghost use Rattle.steps.specs.Course.{outcomeNumber};
 use crate::answers::UNKNOWN_WORD;
 use crate::answers::outcome_number;
 use crate::answers::put_found;
+use crate::answers::put_plain;
 use crate::answers::put_progress;
 use crate::answers::put_seconds;
 use crate::answers::put_snapshot;
 use crate::answers::put_tween;
+use easing::Eased;
 use steps::Run;
 use steps::run_steps;
 use tween::Tween;
 use tween::Updated;
+use tween_words::Stepped;
+use tween_words::Valued;
+use tween_words::step_on;
+use tween_words::value;
 use units::Progress;
 use words::TweenRead;
 use words::flag_word;
@@ -52,13 +58,24 @@ pub extern "C" fn lax_tween_new(w: &mut [u32; 18], start: f32, end: f32) -> u32
     0
 }
 
-#[no_mangle]
-pub extern "C" fn lax_tween_value(w: &[u32; 18], out: &mut [u32; 4]) -> u32
+// By way of the library's tween.
+fn value_in(w: &[u32; 18], out: &mut [u32; 4]) -> u32
     ensures { λ r. ⌜ answering r (now (out .exit)) ≡ laxTweenValue (now (w .entry)) (now (out .entry)) ⌝ }
 {
     match tween_of(tween_in(w)) {
         TweenRead::Known(t) => put_found(t.value(), out),
         TweenRead::Unknown => UNKNOWN_WORD,
+    }
+}
+
+#[no_mangle]
+pub extern "C" fn lax_tween_value(w: &[u32; 18], out: &mut [u32; 4]) -> u32
+    ensures { λ r. ⌜ answering r (now (out .exit)) ≡ laxTweenValue (now (w .entry)) (now (out .entry)) ⌝ }
+{
+    match value(w) {
+        Valued::Plain(v) => put_plain(v, out),
+        Valued::Searched(found) => put_found(Eased::Value(found), out),
+        Valued::Unsure => value_in(w, out),
     }
 }
 
@@ -152,9 +169,8 @@ pub extern "C" fn lax_tween_resume(w: &mut [u32; 18]) -> u32
     }
 }
 
-// out: the folds, and 1 where the tween is not completed.
-#[no_mangle]
-pub extern "C" fn lax_tween_update(w: &mut [u32; 18], step: f32, out: &mut [u32; 2]) -> u32
+// By way of the library's tween.
+fn update_in(w: &mut [u32; 18], step: f32, out: &mut [u32; 2]) -> u32
     ensures { λ r. ⌜ answering r (record { words = now (w .exit); out = now (out .exit) }) ≡ laxTweenUpdate (now (w .entry)) step (now (out .entry)) ⌝ }
 {
     match tween_of(tween_in(w)) {
@@ -171,6 +187,20 @@ pub extern "C" fn lax_tween_update(w: &mut [u32; 18], step: f32, out: &mut [u32;
             Updated::Refused { tween: _, refusal } => refusal.number(),
         },
         TweenRead::Unknown => UNKNOWN_WORD,
+    }
+}
+
+// out: the folds, and 1 where the tween is not completed.
+#[no_mangle]
+pub extern "C" fn lax_tween_update(w: &mut [u32; 18], step: f32, out: &mut [u32; 2]) -> u32
+    ensures { λ r. ⌜ answering r (record { words = now (w .exit); out = now (out .exit) }) ≡ laxTweenUpdate (now (w .entry)) step (now (out .entry)) ⌝ }
+{
+    match step_on(w, step) {
+        Stepped::Ran { folds, running } => {
+            *out = [folds, flag_word(running)];
+            0
+        }
+        Stepped::Unsure => update_in(w, step, out),
     }
 }
 

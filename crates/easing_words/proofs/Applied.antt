@@ -2,7 +2,7 @@
 use Prim.Native.Nat.{ℕ}
 use native.Mathlib.Omega.{arith}
 use mathlib.Core.Path.{_≡_, refl, sym, _∙_}
-use mathlib.Core.Bool.{Bool, true, false, _&&_, cond}
+use mathlib.Core.Bool.{Bool, true, false, _&&_, _||_, cond, false≢true}
 use mathlib.Core.Option.{Option, none, some}
 use lib.Dec.{eqb}
 use lib.Ieee.{Float, isNan}
@@ -28,7 +28,7 @@ use Rattle.words.specs.Sampling.{plainKind, easingFits}
 use Rattle.words.proofs.Fitting.{plain-fits}
 use Rattle.easing_words.specs.declared.drawing.Drawn.the-variants as drawn
 use Rattle.easing_words.specs.declared.drawing.Searched.the-variants as searched
-use Rattle.easing_words.specs.Drawing.{drawnBy, drawOf, searchedOf}
+use Rattle.easing_words.specs.Drawing.{drawnBy, drawOf, holdsOf, searchedOf}
 use Rattle.easing_words.proofs.Plain.{any-params, no-search}
 
 -- a record may hold the easing that the words are
@@ -98,6 +98,16 @@ bezier-read w h = rw h refl
 pub bezier-holds : (w : LaxEasing) → w .kind ≡ 31 → withinOf (params (w .a) (w .b) (w .c) (w .d) 0) ≡ true → Holds w
 unfolding fitsRecordOf suppliedOf paramsOf
 bezier-holds w h p = record { known = rw (bezier-read w h) refl; fits = rw (bezier-read w h) p }
+
+pub holds-so : (w : LaxEasing) → holdsOf (w .kind) (w .a) (w .b) (w .c) (w .d) ≡ true → Holds w
+unfolding holdsOf
+holds-so w h = go (plainKind (w .kind)) refl (eqb (w .kind) 31) refl (withinOf (params (w .a) (w .b) (w .c) (w .d) 0)) refl h
+  where
+    go : (p : Bool) → plainKind (w .kind) ≡ p → (k : Bool) → eqb (w .kind) 31 ≡ k → (f : Bool) → withinOf (params (w .a) (w .b) (w .c) (w .d) 0) ≡ f → p || k && f ≡ true → Holds w
+    go true p k e f g h = plain-holds w p
+    go false p true e true g h = bezier-holds w (eqb-true (w .kind) 31 e) g
+    go false p true e false g h = absurd (false≢true h)
+    go false p false e f g h = absurd (false≢true h)
 
 pub bezier-applies : (w : LaxEasing) (t u : Float) (f : Found) → searched.At f ≡ searchedOf (w .kind) (w .a) (w .b) (w .c) (w .d) u → u ≡ clamp01Of t → isNan t ≡ false → Holds w × (applyOf (easingIn (easingFrom w)) t ≡ Value f)
 unfolding applyOf searchOf curveOf paramsOf

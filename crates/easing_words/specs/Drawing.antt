@@ -1,6 +1,6 @@
 -- The curve of an easing by its number and parameters.
 use Prim.Native.Nat.{ℕ}
-use mathlib.Core.Bool.{Bool, _&&_, cond}
+use mathlib.Core.Bool.{Bool, _&&_, _||_, cond}
 use mathlib.Core.Option.{Option, none, some}
 use lib.Dec.{eqb}
 use lib.Ieee.{Float}
@@ -21,7 +21,11 @@ drawnBy (some curve) u = drawn.At (curve u)
 unfoldable pub drawOf : ℕ → Float → Drawn
 drawOf kind u = cond (plainKind kind) (drawnBy (curveOf (ofNumber kind noParams)) u) drawn.Other
 
--- CubicBezier, number 31, within its limits, at u
+-- a plain kind, or CubicBezier, number 31, within its limits
+unfoldable pub holdsOf : ℕ → Float → Float → Float → Float → Bool
+holdsOf kind x1 y1 x2 y2 = plainKind kind || eqb kind 31 && withinOf (params x1 y1 x2 y2 0)
+
+-- CubicBezier within its limits, at u
 unfoldable pub searchedOf : ℕ → Float → Float → Float → Float → Float → Searched
 searchedOf kind x1 y1 x2 y2 u =
     cond (eqb kind 31 && withinOf (params x1 y1 x2 y2 0)) (searched.At (bezierOf u x1 y1 x2 y2)) searched.Other

@@ -4,7 +4,7 @@ ghost use Rattle.math.specs.Range.{Within};
 ghost use Rattle.math.specs.Rounded.{f32};
 ghost use Rattle.easing.specs.Params.{params, withinOf};
 ghost use Rattle.words.specs.Sampling.{plainKind};
-ghost use Rattle.easing_words.specs.Drawing.{drawOf, searchedOf};
+ghost use Rattle.easing_words.specs.Drawing.{drawOf, holdsOf, searchedOf};
 use bezier::Found;
 use math::of_bits;
 
@@ -67,6 +67,20 @@ fn fits(x1: f32, y1: f32, x2: f32, y2: f32) -> bool
         & (math::size(y1) <= 1024.0)
         & math::is_finite(x2)
         & (math::size(y2) <= 1024.0)
+}
+
+// Whether a record may hold the easing. false where this does not tell: of the other kinds with
+// parameters, whose limits the easing has.
+pub fn holds(kind: u32, a: u32, b: u32, c: u32, d: u32) -> bool
+    ensures { λ r. ⌜ r ≡ holdsOf kind (f32 a) (f32 b) (f32 c) (f32 d) ⌝ }
+{
+    if is_plain(kind) {
+        return true;
+    }
+    if kind != 31 {
+        return false;
+    }
+    fits(of_bits(a), of_bits(b), of_bits(c), of_bits(d))
 }
 
 // CubicBezier, by the words of its kind and parameters.

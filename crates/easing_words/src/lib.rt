@@ -4,5 +4,6 @@ mod drawing;
 pub use drawing::Drawn;
 pub use drawing::Searched;
 pub use drawing::draw;
+pub use drawing::holds;
 pub use drawing::is_plain;
 pub use drawing::search;

@@ -1,24 +1,20 @@
 -- `lax_tween_update` meets its contract, by what its callees ensure. Assumes nothing.
-use Rattle.capi.specs.Tweens.{updatedIn, laxTweenUpdate}
+use mathlib.Core.Path.{subst}
+use denote.Ref.{now}
+use Rattle.tween_words.specs.Stepping.{StepsTo}
+use Rattle.capi.proofs.Quick.{stepped, unsure}
 use borrow.Author.Needs.{needs}
 use Rattle.capi.proofs.tweens.lax_tween_update.Statement.{statement}
 use Rattle.capi.proofs.tweens.lax_tween_update.Tie as tie
 
 pub lax-tween-update-spec : {M : Type 1} → statement M
-unfolding laxTweenUpdate updatedIn
 lax-tween-update-spec =
     tie.close
     (tie.spec
     (λ c κs. search needs)
-    (λ c κs. search needs)
     (λ c. search needs)
     (λ c κs. search needs)
     (λ c. search needs)
     (λ c κs. search needs)
-    (λ c κs. search needs)
-    (λ c. search needs)
-    (λ c κs. search needs)
-    (λ c. search needs)
-    (λ c. simp (← (c .before .before .before .before .before .before .before .before .before .before .before .before .tween-in .ensures), ← (c .before .before .before .before .before .before .before .before .before .before .before .tween-of .ensures), c .before .before .before .before .before .before .before .before .before .t .given .1, ← (c .before .before .before .before .before .before .before .update .ensures), c .before .before .before .before .before .tween .given .1, c .before .flag-word .ensures, c .before .before .store-tween .ensures))
-    (λ c. simp (← (c .before .before .before .before .before .before .before .before .before .tween-in .ensures), ← (c .before .before .before .before .before .before .before .before .tween-of .ensures), c .before .before .before .before .before .before .t .given .1, ← (c .before .before .before .before .update .ensures), c .before .before .refusal .given .1, c .number .ensures))
-    (λ c. simp (← (c .before .before .before .tween-in .ensures), ← (c .before .before .tween-of .ensures), c .enum-told .given .1)))
+    (λ c. rw (c .before .flag-word .ensures) (stepped (now (c .before .before .before .before .before .before .before .args .w)) (now (c .before .before .before .before .before .before .before .args .out)) (c .before .before .before .before .before .before .before .args .step) _ _ _ (subst (StepsTo _ _ _) (c .before .before .before .folds .given .1) (c .before .before .before .before .before .step-on .ensures))))
+    (λ c. unsure (now (c .before .before .before .before .before .before .before .args .w)) (now (c .before .before .before .before .before .before .before .args .out)) _ (c .before .before .before .before .before .before .before .args .step) _ (subst (StepsTo _ _ _) (c .before .before .before .enum-told .given .1) (c .before .before .before .before .before .step-on .ensures)) (c .update-in .ensures)))
