@@ -4,7 +4,6 @@ mod Examples
 pub mod Fewest
 pub mod Fractions
 pub mod Heard
-pub mod Patterns
 pub mod Places
 pub mod Powers
 pub mod Printed

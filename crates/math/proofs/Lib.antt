@@ -11,11 +11,13 @@ mod Form
 pub mod Lists
 pub mod Numbers
 pub mod Order
+pub mod Ordered
 pub mod Parts
 pub mod Patterns
 pub mod Ranges
 pub mod Sizes
 pub mod Tallies
+pub mod Units
 pub mod Upward
 mod WholePart
 pub mod Wholes
