@@ -11,6 +11,7 @@ pub mod Rising
 pub mod Samples
 pub mod Scans
 mod Shifts
+pub mod Stamps
 mod Times
 pub mod Unchanged
 pub mod Walks
