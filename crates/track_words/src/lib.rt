@@ -10,4 +10,5 @@ pub use reading::elapsed;
 pub use reading::last_time;
 pub use reading::looping;
 pub use reading::wide;
+pub use reading::word_at;
 pub use sampling::sample;

@@ -21,6 +21,13 @@ pub fn wide(x: u32) -> usize
     x as usize
 }
 
+pub fn word_at(w: &[u32; 518], at: usize) -> u32
+    requires { ⌜ at < 518 ⌝ }
+    ensures { λ r. ⌜ r ≡ wordAt (now (w .entry)) at ⌝ }
+{
+    w[at]
+}
+
 pub fn float_at(w: &[u32; 518], at: usize) -> f32
     requires { ⌜ at < 518 ⌝ }
     ensures { λ r. ⌜ r ≡ floatAt (now (w .entry)) at ⌝ }
@@ -33,12 +40,12 @@ pub fn easing_at(w: &[u32; 518], at: usize) -> LaxEasing
     ensures { λ r. ⌜ r ≡ easingAt (now (w .entry)) at ⌝ }
 {
     LaxEasing {
-        kind: w[at],
-        a: math::of_bits(w[at + 1]),
-        b: math::of_bits(w[at + 2]),
-        c: math::of_bits(w[at + 3]),
-        d: math::of_bits(w[at + 4]),
-        count: w[at + 5],
+        kind: word_at(w, at),
+        a: float_at(w, at + 1),
+        b: float_at(w, at + 2),
+        c: float_at(w, at + 3),
+        d: float_at(w, at + 4),
+        count: word_at(w, at + 5),
     }
 }
 
@@ -49,12 +56,6 @@ pub fn frame_in(w: &[u32; 518], i: usize) -> Keyframe
     let at = 8 * i;
     let e = easing_at(w, at + 2);
     words::frame_of(LaxKeyframe::new(float_at(w, at), float_at(w, at + 1), e))
-}
-
-pub fn mode_word(w: &[u32; 518]) -> u32
-    ensures { λ r. ⌜ r ≡ wordAt (now (w .entry)) 514 ⌝ }
-{
-    w[514]
 }
 
 pub fn looping(w: &[u32; 518]) -> Loop

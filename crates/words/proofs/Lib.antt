@@ -1,5 +1,5 @@
-mod Fitting
-mod Known
+pub mod Fitting
+pub mod Known
 pub mod Quick
 pub mod ReadBack
 mod Seen
