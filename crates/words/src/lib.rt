@@ -1,5 +1,6 @@
 // Records as words of 32 bits, for the C interface. Reading answers Unknown where a word is no kind, no mode or no state.
 mod kinds;
+mod lent;
 mod modes;
 mod sampling;
 mod tracks;
@@ -11,6 +12,11 @@ pub use kinds::UNKNOWN_WORD;
 pub use kinds::easing_of;
 pub use kinds::easing_words;
 pub use kinds::is_kind;
+pub use lent::easing_in;
+pub use lent::frame_in;
+pub use lent::loop_in;
+pub use lent::store_tween;
+pub use lent::tween_in;
 pub use modes::LaxLoop;
 pub use modes::LoopRead;
 pub use modes::flag_word;
