@@ -5,14 +5,16 @@ use native.Mathlib.Omega.{arith}
 use mathlib.Core.Path.{_≡_, refl, sym, _∙_}
 use mathlib.Core.List.{List, [], _∷_, _++_, map}
 use mathlib.Core.Logic.{⊎-elim}
-use lib.ListN.{length, length-append, length-map, take, drop, getD, List·getD-append}
+use lib.ListN.{length, length-append, length-map, take, drop, getD, List·getD-append, List·getD-map}
 use lib.Seq.{length-take-le, take-at, take-append-le, take-all, getD-at}
+use lib.Ieee.{nan}
 use Rattle.math.specs.Lists.{firsts}
 use Rattle.frames.specs.declared.frame.Keyframe.{Keyframe}
+use Rattle.frames.specs.Inner.{timesOf}
 use Rattle.frames.specs.Limits.{noFrame}
 use Rattle.keyframe.specs.Limits.{framesIn}
 use Rattle.words.specs.declared.tracks.LaxKeyframe.{LaxKeyframe}
-use Rattle.words.specs.Lent.{wordAt, frameAt, trackIn}
+use Rattle.words.specs.Lent.{wordAt, floatAt, frameAt, trackIn}
 use Rattle.words.specs.Tracks.{blanks, frameFrom, framesFrom, trackFrom}
 use Rattle.words.proofs.Known.{noWords, all-places}
 use Rattle.track_words.specs.Reading.{trackOf, frameIn, framesOf}
@@ -51,6 +53,11 @@ unfolding firsts
 map-firsts g f zero = refl
 map-firsts g f (suc n) = map-append g (firsts f n) (f n ∷ []) ∙ (rw (map-firsts g f n) refl)
 
+take-map : {A B : Type 0} (g : A → B) (n : ℕ) (l : List A) → take n (map g l) ≡ map g (take n l)
+take-map g zero l = refl
+take-map g (suc n) [] = refl
+take-map g (suc n) (x ∷ l) = rw (take-map g n l) refl
+
 module _ (words : List ℕ) where
   pub places-long : length (trackIn words .frames) ≡ 64
   unfolding trackIn
@@ -76,3 +83,10 @@ module _ (words : List ℕ) where
       let f : ℕ → LaxKeyframe = λ i. frameAt words (8 * i) in
       rw (all-places n h, take-firsts f n 64 h, map-firsts frameFrom f n)
       (take-at (firsts (λ i. frameFrom (f i)) n) (drop n blanks) n (length-firsts (λ i. frameFrom (f i)) n) ∙ sym (take-firsts (λ i. frameFrom (f i)) n 64 h))
+
+  pub times-front : (n : ℕ) → take n (timesOf (framesOf words)) ≡ timesOf (take n (framesOf words))
+  times-front n = take-map (λ (k : Keyframe). k .time) n (framesOf words)
+
+  pub time-at : (i : ℕ) → i < 64 → getD (timesOf (framesOf words)) i nan ≡ floatAt words (8 * i)
+  unfolding frameIn frameFrom frameAt
+  time-at i h = List·getD-map (λ (k : Keyframe). k .time) (framesOf words) i noFrame ∙ rw (frame-at i h)
