@@ -45,26 +45,23 @@ later (suc n) time a h = go (leb (suc n) time) refl
     go false e = not-lt-of-le (f32 time) (f32 n) (holds _ (in-order time n (omega (arith, leb-false (suc n) time e)) (omega arith)))
 
 -- a pattern of more than 32 bits reads as one with the sign set
-pub time-word : (n : ℕ) → isTime (f32 n) ≡ leb n 0x4b80_0000
+signed : (n : ℕ) → 0x1_0000_0000 ≤ n → f32 n ≡ f32 (0x8000_0000 + n % 0x8000_0000)
+unfolding ofBits
+signed n h =
+    let m = 0x8000_0000 + n % 0x8000_0000 in
+    let a : m % 0x8000_0000 ≡ n % 0x8000_0000 = omega arith in
+    let b : m % 0x80_0000 ≡ n % 0x80_0000 = omega arith in
+    rw (le-leb 0x8000_0000 n (omega arith), le-leb 0x8000_0000 m (omega arith), a, b) refl
+
+time-word : (n : ℕ) → isTime (f32 n) ≡ leb n 0x4b80_0000
 time-word n = go (leb 0x1_0000_0000 n) refl
   where
-    m : ℕ
-    m = 0x8000_0000 + n % 0x8000_0000
-
-    same : 0x1_0000_0000 ≤ n → f32 n ≡ f32 m
-    unfolding ofBits m
-    same h =
-        let k = 0x8000_0000 + n % 0x8000_0000 in
-        let a : k % 0x8000_0000 ≡ n % 0x8000_0000 = omega arith in
-        let b : k % 0x80_0000 ≡ n % 0x80_0000 = omega arith in
-        rw (le-leb 0x8000_0000 n (omega arith), le-leb 0x8000_0000 k (omega arith), a, b) refl
-
     go : (b : Bool) → leb 0x1_0000_0000 n ≡ b → isTime (f32 n) ≡ leb n 0x4b80_0000
-    unfolding m
     go false e = time-test n (leb-false _ _ e)
     go true e =
-        let h = leb-true _ _ e in
-        rw (same h, time-test m (omega arith), lt-leb m 0x4b80_0000 (omega arith), lt-leb n 0x4b80_0000 (omega arith)) refl
+        let h = leb-true 0x1_0000_0000 n e in
+        let m = 0x8000_0000 + n % 0x8000_0000 in
+        rw (signed n h, time-test m (omega arith), lt-leb m 0x4b80_0000 (omega arith), lt-leb n 0x4b80_0000 (omega arith)) refl
 
 -- the tests of a frame, in the order of the code
 shuffled : (k e t v l a rest more : Bool) → (t ≡ true → l ≡ a) → k && rest && (t && v && e && l && more) ≡ a && t && v && (k && e) && (rest && more)

@@ -43,7 +43,7 @@ frames-fit-spec =
     let s = c .before .before .before .before .before .before in
     let a = s .before .args in
     let step = sound-step (now (a .w)) (a .n) (s .before .pre) (s .loop .i) (s .loop .above) (omega arith) (s .loop .inv .1) in
-    sym (rw (← c .before .before .before .before .word-at .ensures, ← c .before .before .before .word-at2 .ensures, c .before .before .if1 .taken, ← c .before .easing-fits .ensures, not-true _ (c .if2 .taken)) at step) ∙ s .loop .inv .2)
+    sym (rw (← c .before .before .before .before .word-at .ensures, ← c .before .before .before .word-at2 .ensures, c .before .before .if1 .taken, ← c .before .easing-fits .ensures, not-true (c .before .easing-fits .result) (c .if2 .taken)) at step) ∙ s .loop .inv .2)
     (λ c. let h = passed (c .before .before) in omega arith)
     (λ c. search needs)
     (λ c. search needs)
@@ -52,7 +52,7 @@ frames-fit-spec =
     let a = s .before .args in
     let h = passed (c .before .before) in
     let step = sound-step (now (a .w)) (a .n) (s .before .pre) (s .loop .i) (s .loop .above) (omega arith) (s .loop .inv .1) in
-    (omega arith, omega arith, sym (rw (← c .before .before .before .before .word-at .ensures, ← c .before .before .before .word-at2 .ensures, c .before .before .if1 .taken, ← c .before .easing-fits .ensures, not-false _ (c .if2 .left)) at step) ∙ s .loop .inv .2))
+    (omega arith, omega arith, sym (rw (← c .before .before .before .before .word-at .ensures, ← c .before .before .before .word-at2 .ensures, c .before .before .if1 .taken, ← c .before .easing-fits .ensures, not-false (c .before .easing-fits .result) (c .if2 .left)) at step) ∙ s .loop .inv .2))
     (λ c.
     let s = c .before .before .before .before in
     let a = s .before .args in
