@@ -1,17 +1,20 @@
 /* laxombiit.h: the C interface of Laxombiit: proved easings, tweens, keyframe tracks and event logs.
  *
- * Every record goes in and comes back by value; nothing is kept between calls, and no call
- * allocates. Each answer has a number: 0 where the call was accepted, the number of the refusal
- * where it was refused, LAX_UNKNOWN_WORD where a word is no kind, no mode or no state. Where the
- * number is not 0 the rest of the answer is 0, but for a record or a log's length, which is then the
- * one that came, and lent lists are not written; lax_run and lax_replayed say where a run of steps and a
- * replay differ. A list that is written overlaps no other.
+ * Records are lent by a pointer and changed in place; nothing is kept between calls, and no call
+ * allocates. A call returns one word: 0 where it was accepted, the refusal where it was refused,
+ * LAX_UNKNOWN_WORD where a word is no kind, no mode or no state. What else it answers goes into places
+ * that are lent behind its arguments. A refused call changes no word of a record and writes no place and
+ * no list; lax_run and lax_replay say where a run of steps and a replay differ. Every pattern of bits is
+ * legal in a record. Words that a kind or a mode has no use for are not looked at, and stay as they came.
+ *
+ * No pointer may be NULL. What a call writes overlaps nothing else that it is lent, and no other thread
+ * uses it during the call. Lengths count elements.
  *
  * A call refuses by the first rule that applies, in this order:
  * 4, 1, 2, 3, 5, 11, 10, 12, 9, 6, 7, 8; the calls of a log have orders of their own. LAX_UNKNOWN_WORD
  * comes before them all.
  *
- * Link with liblaxombiit.a and -lm: the time within a pass of a track takes C's fmodf.
+ * Link with liblaxombiit.a or liblaxombiit.so; nothing else is needed.
  * The calls want the processor in its default mode: rounding to nearest, subnormals kept.
  */
 #ifndef LAXOMBIIT_H
@@ -20,12 +23,21 @@
 #include <stddef.h>
 #include <stdint.h>
 
+#if !defined(__x86_64__) || !defined(__linux__) || defined(__ILP32__)
+#error "Laxombiit has an archive for 64-bit Linux on x86-64 alone, and this is another processor or system"
+#endif
+
 #ifdef __cplusplus
 extern "C" {
 #endif
 
 /* The header's version, the programs' and the Rust crate's. */
-#define LAX_VERSION "0.3.0"
+#define LAX_VERSION "0.4.0"
+
+/* The two parts of what a call returns: the refusal's number, and a frame of a track, counted from 0. No
+ * call of this version tells a frame, and the second part is 0. */
+#define LAX_NUMBER(answer) ((uint32_t)(answer) & 0xffu)
+#define LAX_FRAME(answer) ((uint32_t)(answer) >> 8)
 
 /* The numbers of the refusals. */
 enum {
@@ -51,10 +63,10 @@ enum {
     LAX_UNKNOWN_WORD = 100       /* a word is no kind, mode, state or event, or no number of a record */
 };
 
-/* What a number means, as above. */
-static inline const char *lax_refusal_text(uint32_t number)
+/* What a call's answer means, as above. */
+static inline const char *lax_refusal_text(uint32_t answer)
 {
-    switch (number) {
+    switch (LAX_NUMBER(answer)) {
     case LAX_OK: return "the call was accepted";
     case LAX_PROGRESS_IS_NAN: return "the progress is NaN";
     case LAX_EASING_NOT_SUPPLIED: return "the easing is one of the twelve without a curve";
@@ -124,8 +136,7 @@ enum {
 
 /* A kind and its parameters. CubicBezier: x1, y1, x2, y2 in a to d. Steps and Wiggle: count.
  * RoughEase: strength in a, points in count. SlowMo: linear_ratio in a, power in b. CustomBounce:
- * strength in a. ExpoScale: start in a, end in b. Words that a kind has no use for are not looked
- * at, and come back as 0. */
+ * strength in a. ExpoScale: start in a, end in b. */
 typedef struct lax_easing {
     uint32_t kind;
     float a, b, c, d;
@@ -145,7 +156,7 @@ typedef struct lax_loop {
 enum { LAX_IDLE = 0, LAX_RUNNING = 1, LAX_PAUSED = 2, LAX_COMPLETED = 3 };
 
 /* A ramp from start to end. Times are in seconds. ping_pong_reverse is a flag: a word that is not 0
- * is true, and comes back as 1. */
+ * is true, and a call that changes the tween writes it as 0 or 1. */
 typedef struct lax_tween {
     float start, end;         /* at most 16,777,216 in size */
     float duration;           /* 0 to 16,777,216, of one pass */
@@ -160,62 +171,36 @@ typedef struct lax_tween {
     uint32_t ping_pong_reverse;
 } lax_tween;
 
-typedef struct lax_value {
-    uint32_t number;
-    float value;
-} lax_value;
-
 /* A value, and the search behind it. LAX_CUBIC_BEZIER alone searches: for the place on its curve whose x
  * is t. settled is 1 where the last x that it evaluated met the tolerance, 1e-6, and 0 where it ended
  * without. Where nothing is searched settled is 1 and both counts are 0: every other kind, t of 0 or 1,
  * a first or a last frame's value, a duration of 0. A settled x is no bound on the error of the value:
  * where the curve is steep, the value may be off by far more than 1e-6. */
 typedef struct lax_found {
-    uint32_t number;
     float value;
     uint32_t settled;     /* 0 or 1 */
     uint32_t xs;          /* evaluations of x, at most 16 */
     uint32_t derivatives; /* evaluations of its derivative, at most 6 */
 } lax_found;
 
-typedef struct lax_flag {
-    uint32_t number;
-    uint32_t flag; /* 0 or 1 */
-} lax_flag;
-
-typedef struct lax_easing_answer {
-    uint32_t number;
-    lax_easing easing;
-} lax_easing_answer;
-
 /* What moves in a tween. */
 typedef struct lax_snapshot {
-    uint32_t number;
     float elapsed, delay_elapsed;
     uint32_t state, loop_count, ping_pong_reverse;
 } lax_snapshot;
 
-typedef struct lax_changed {
-    uint32_t number;
-    lax_tween tween;
-} lax_changed;
-
 /* folds: how many passes the update folded, the completing one too. running: 0 once completed. */
 typedef struct lax_updated {
-    uint32_t number;
     uint32_t folds;
     uint32_t running;
-    lax_tween tween;
 } lax_updated;
 
-/* done: how many steps were taken, and so, where number is not 0, the place of the step that was
- * refused. The tween is as it stood before that step. unsettled: how many of the values written are
- * not settled. */
+/* done: how many steps were taken, and so, where the run was refused at a step, the place of that step.
+ * unsettled: how many of the values written are not settled. A run that was refused with no step taken
+ * writes neither: set them to 0 before the call. */
 typedef struct lax_run {
-    size_t done;
-    size_t unsettled;
-    uint32_t number;
-    lax_tween tween;
+    uint64_t done;
+    uint64_t unsettled;
 } lax_run;
 
 /* A frame of a track. easing goes from this frame to the next. */
@@ -229,9 +214,9 @@ typedef struct lax_keyframe {
 enum { LAX_FRAMES = 64 };
 
 /* A value along frames. The track's frames are the first count places, at strictly ascending times;
- * the places behind them are not looked at, and come back as they came. One pass takes the last
- * frame's time; in the modes with an end that time, times the passes, is at most 16,777,216.
- * complete is a flag: a word that is not 0 is true, and comes back as 1. */
+ * the places behind them are not looked at, and stay as they came. One pass takes the last frame's
+ * time; in the modes with an end that time, times the passes, is at most 16,777,216. complete is a
+ * flag: a word that is not 0 is true, and a call that moves the track writes it as 0 or 1. */
 typedef struct lax_track {
     lax_keyframe frames[LAX_FRAMES];
     uint32_t count;      /* up to 64 */
@@ -241,24 +226,11 @@ typedef struct lax_track {
     uint32_t complete;
 } lax_track;
 
-typedef struct lax_track_changed {
-    uint32_t number;
-    lax_track track;
-} lax_track_changed;
-
-/* running: 0 once complete, and with fewer than two frames. */
-typedef struct lax_track_updated {
-    uint32_t number;
-    uint32_t running;
-    lax_track track;
-} lax_track_updated;
-
 /* filled: how many places at the front of the output were written. unsettled: how many of those values
  * are not settled. */
 typedef struct lax_filled {
-    size_t filled;
-    size_t unsettled;
-    uint32_t number;
+    uint64_t filled;
+    uint64_t unsettled;
 } lax_filled;
 
 /* What is done to a tween, as a record of an event log has it. */
@@ -270,163 +242,208 @@ typedef struct lax_event {
     float step;
 } lax_event;
 
-/* written is the length of the log after the call, in bytes: as it was where the number is not 0. */
-typedef struct lax_logged {
-    size_t written;
-    uint32_t number;
-} lax_logged;
-
 /* A number that no record has: nothing is read yet. */
 enum { LAX_NO_RECORD = 65536 };
 
-/* How far a replay has come. Both sums stay at 18,446,744,073,709,551,615 where they would pass it. */
+/* How far a replay has come; the tween stands in a record of its own. Both sums stay at
+ * 18,446,744,073,709,551,615 where they would pass it. done: how many records the last call read, and so,
+ * where it was refused at a record, the place of that record. A replay that was refused with no record read
+ * writes nothing: set all four before the call, as LAX_REPLAY_NEW does. */
 typedef struct lax_replay {
     uint64_t missing; /* records known to be missing, repeats apart */
     uint64_t folds;   /* of all updates that were replayed */
-    uint32_t last;    /* the number of the last record, or LAX_NO_RECORD */
-    lax_tween tween;
+    uint64_t last;    /* the number of the last record, or LAX_NO_RECORD */
+    uint64_t done;
 } lax_replay;
 
-/* done: how many records were read, and so, where number is not 0, the place of the record that was
- * refused. reached is how far the replay had come before that record. */
-typedef struct lax_replayed {
-    size_t done;
-    uint32_t number;
-    lax_replay reached;
-} lax_replayed;
+/* Nothing read yet: lax_replay reached = LAX_REPLAY_NEW; */
+#define LAX_REPLAY_NEW {0, 0, LAX_NO_RECORD, 0}
 
-/* The layout that the archive was built for. */
-typedef char lax_size_of_easing[sizeof(lax_easing) == 24 ? 1 : -1];
-typedef char lax_size_of_loop[sizeof(lax_loop) == 8 ? 1 : -1];
-typedef char lax_size_of_tween[sizeof(lax_tween) == 72 ? 1 : -1];
-typedef char lax_size_of_value[sizeof(lax_value) == 8 ? 1 : -1];
-typedef char lax_size_of_found[sizeof(lax_found) == 20 ? 1 : -1];
-typedef char lax_size_of_flag[sizeof(lax_flag) == 8 ? 1 : -1];
-typedef char lax_size_of_easing_answer[sizeof(lax_easing_answer) == 28 ? 1 : -1];
-typedef char lax_size_of_snapshot[sizeof(lax_snapshot) == 24 ? 1 : -1];
-typedef char lax_size_of_changed[sizeof(lax_changed) == 76 ? 1 : -1];
-typedef char lax_size_of_updated[sizeof(lax_updated) == 84 ? 1 : -1];
-typedef char lax_size_of_run[sizeof(lax_run) == 96 ? 1 : -1];
-typedef char lax_size_of_keyframe[sizeof(lax_keyframe) == 32 ? 1 : -1];
-typedef char lax_size_of_track[sizeof(lax_track) == 2072 ? 1 : -1];
-typedef char lax_size_of_track_changed[sizeof(lax_track_changed) == 2076 ? 1 : -1];
-typedef char lax_size_of_track_updated[sizeof(lax_track_updated) == 2080 ? 1 : -1];
-typedef char lax_size_of_filled[sizeof(lax_filled) == 24 ? 1 : -1];
-typedef char lax_size_of_event[sizeof(lax_event) == 8 ? 1 : -1];
-typedef char lax_size_of_logged[sizeof(lax_logged) == 16 ? 1 : -1];
-typedef char lax_size_of_replay[sizeof(lax_replay) == 96 ? 1 : -1];
-typedef char lax_size_of_replayed[sizeof(lax_replayed) == 112 ? 1 : -1];
+/* The layout that the archive was built for: sizes, and where each field stands, in bytes. */
+#define LAX_SIZE(type, size) typedef char type##_size[sizeof(type) == (size) ? 1 : -1]
+#define LAX_AT(type, field, at) typedef char type##_##field##_at[offsetof(type, field) == (at) ? 1 : -1]
+LAX_SIZE(lax_easing, 24);
+LAX_AT(lax_easing, kind, 0);
+LAX_AT(lax_easing, a, 4);
+LAX_AT(lax_easing, b, 8);
+LAX_AT(lax_easing, c, 12);
+LAX_AT(lax_easing, d, 16);
+LAX_AT(lax_easing, count, 20);
+LAX_SIZE(lax_loop, 8);
+LAX_AT(lax_loop, mode, 0);
+LAX_AT(lax_loop, passes, 4);
+LAX_SIZE(lax_tween, 72);
+LAX_AT(lax_tween, start, 0);
+LAX_AT(lax_tween, end, 4);
+LAX_AT(lax_tween, duration, 8);
+LAX_AT(lax_tween, easing, 12);
+LAX_AT(lax_tween, delay, 36);
+LAX_AT(lax_tween, time_scale, 40);
+LAX_AT(lax_tween, looping, 44);
+LAX_AT(lax_tween, elapsed, 52);
+LAX_AT(lax_tween, delay_elapsed, 56);
+LAX_AT(lax_tween, state, 60);
+LAX_AT(lax_tween, loop_count, 64);
+LAX_AT(lax_tween, ping_pong_reverse, 68);
+LAX_SIZE(lax_found, 16);
+LAX_AT(lax_found, value, 0);
+LAX_AT(lax_found, settled, 4);
+LAX_AT(lax_found, xs, 8);
+LAX_AT(lax_found, derivatives, 12);
+LAX_SIZE(lax_snapshot, 20);
+LAX_AT(lax_snapshot, elapsed, 0);
+LAX_AT(lax_snapshot, delay_elapsed, 4);
+LAX_AT(lax_snapshot, state, 8);
+LAX_AT(lax_snapshot, loop_count, 12);
+LAX_AT(lax_snapshot, ping_pong_reverse, 16);
+LAX_SIZE(lax_updated, 8);
+LAX_AT(lax_updated, folds, 0);
+LAX_AT(lax_updated, running, 4);
+LAX_SIZE(lax_run, 16);
+LAX_AT(lax_run, done, 0);
+LAX_AT(lax_run, unsettled, 8);
+LAX_SIZE(lax_keyframe, 32);
+LAX_AT(lax_keyframe, time, 0);
+LAX_AT(lax_keyframe, value, 4);
+LAX_AT(lax_keyframe, easing, 8);
+LAX_SIZE(lax_track, 2072);
+LAX_AT(lax_track, frames, 0);
+LAX_AT(lax_track, count, 2048);
+LAX_AT(lax_track, elapsed, 2052);
+LAX_AT(lax_track, looping, 2056);
+LAX_AT(lax_track, loop_count, 2064);
+LAX_AT(lax_track, complete, 2068);
+LAX_SIZE(lax_filled, 16);
+LAX_AT(lax_filled, filled, 0);
+LAX_AT(lax_filled, unsettled, 8);
+LAX_SIZE(lax_event, 8);
+LAX_AT(lax_event, kind, 0);
+LAX_AT(lax_event, step, 4);
+LAX_SIZE(lax_replay, 32);
+LAX_AT(lax_replay, missing, 0);
+LAX_AT(lax_replay, folds, 8);
+LAX_AT(lax_replay, last, 16);
+LAX_AT(lax_replay, done, 24);
+#undef LAX_AT
+#undef LAX_SIZE
 
 /* Easings. */
 
 /* The eased progress at t, which is clamped to 0..1. Refuses 1, 2, 3. */
-lax_found lax_easing_apply(lax_easing e, float t);
+uint32_t lax_easing_apply(const lax_easing *e, float t, lax_found *out);
 
-/* The same kind with equal parameters; -0 equals 0. Refuses 2, 3, for either side. */
-lax_flag lax_easing_eq(lax_easing x, lax_easing y);
+/* 1 for the same kind with equal parameters, else 0; -0 equals 0. Refuses 2, 3, for either side. */
+uint32_t lax_easing_eq(const lax_easing *x, const lax_easing *y, uint32_t *out);
 
-/* Whether the kind has a curve. */
-lax_flag lax_easing_is_supplied(lax_easing e);
+/* Whether the kind has a curve: 1 or 0. */
+uint32_t lax_easing_is_supplied(const lax_easing *e, uint32_t *out);
 
 /* The kind at a place from 0 to 37, with its usual parameters; LAX_UNKNOWN_WORD beyond. */
-lax_easing_answer lax_easing_named(uint32_t place);
+uint32_t lax_easing_named(uint32_t place, lax_easing *out);
 
 /* Tweens. Each call but the first refuses 4 where the tween breaks a limit. */
 
-/* One second, linear, no delay, scale 1, once; running from its start. Nothing is checked. */
-lax_tween lax_tween_new(float start, float end);
+/* One second, linear, no delay, scale 1, once; running from its start. Nothing is checked: it returns 0. */
+uint32_t lax_tween_new(lax_tween *t, float start, float end);
 
-lax_found lax_tween_value(lax_tween t);
-lax_value lax_tween_progress(lax_tween t);       /* of the pass under way, before the easing */
-lax_found lax_tween_eased_progress(lax_tween t);
-lax_snapshot lax_tween_snapshot(lax_tween t);
-lax_value lax_tween_playback_duration(lax_tween t); /* infinity in the modes without an end */
+uint32_t lax_tween_value(const lax_tween *t, lax_found *out);
+uint32_t lax_tween_progress(const lax_tween *t, float *out); /* of the pass under way, before the easing */
+uint32_t lax_tween_eased_progress(const lax_tween *t, lax_found *out);
+uint32_t lax_tween_snapshot(const lax_tween *t, lax_snapshot *out);
+uint32_t lax_tween_playback_duration(const lax_tween *t, float *out); /* infinity in the modes without an end */
 
-lax_changed lax_tween_reset(lax_tween t);
-lax_changed lax_tween_seek(lax_tween t, float progress); /* in the pass under way; refuses 1 */
-lax_changed lax_tween_reverse(lax_tween t);
-lax_changed lax_tween_pause(lax_tween t);  /* acts on a running tween alone */
-lax_changed lax_tween_resume(lax_tween t); /* acts on a paused tween alone */
+uint32_t lax_tween_reset(lax_tween *t);
+uint32_t lax_tween_seek(lax_tween *t, float progress); /* in the pass under way; refuses 1 */
+uint32_t lax_tween_reverse(lax_tween *t);
+uint32_t lax_tween_pause(lax_tween *t);  /* acts on a running tween alone */
+uint32_t lax_tween_resume(lax_tween *t); /* acts on a paused tween alone */
 
 /* A step of so many seconds; NaN and what is below 0 count as 0. Refuses 5, 6, 7. */
-lax_updated lax_tween_update(lax_tween t, float step);
+uint32_t lax_tween_update(lax_tween *t, float step, lax_updated *out);
 
 /* A run of steps: the value after each goes into values, its folds into folds. Refuses 12 where
- * either is shorter than steps, and stops at the first step that update or value refuses; the lists
- * are unwritten from there on. */
-lax_run lax_tween_run(lax_tween t, const float *steps, size_t steps_len, float *values, size_t values_len,
-                      uint32_t *folds, size_t folds_len);
+ * either is shorter than steps, and stops at the first step that update or value refuses: it returns
+ * that refusal, the tween is as it stood before that step, and the lists are unwritten from there on. */
+uint32_t lax_tween_run(lax_tween *t, const float *steps, uint64_t steps_len, float *values, uint64_t values_len,
+                       uint32_t *folds, uint64_t folds_len, lax_run *out);
 
 /* Tracks. Each call but the first refuses 4 where the track breaks a limit; a count above 64 is
  * one, and then all 64 places are looked at for an unknown word. */
 
-/* No frames, once. */
-lax_track lax_track_new(void);
+/* No frames, once: every word is 0. It returns 0. */
+uint32_t lax_track_new(lax_track *t);
 
 /* A linear frame, put in its place by time; a frame at an equal time is replaced. -0 is stored as
- * +0. Clears complete, keeps elapsed and loop_count. Refuses 11 where the time, the value or the
- * total is beyond its limit, 9 where the track is full and no frame has this time. */
-lax_track_changed lax_track_push(lax_track t, float time, float value);
+ * +0. Clears complete, keeps elapsed and loop_count. Frames that move keep their words. Refuses 11 where
+ * the time, the value or the total is beyond its limit, 9 where the track is full and no frame has this
+ * time. */
+uint32_t lax_track_push(lax_track *t, float time, float value);
 
-/* The same with an easing. Refuses 2 and 3 for it, and as lax_track_push. */
-lax_track_changed lax_track_push_eased(lax_track t, float time, float value, lax_easing e);
+/* The same with an easing, whose words are stored as they are. Refuses 2 and 3 for it, and as
+ * lax_track_push. */
+uint32_t lax_track_push_eased(lax_track *t, float time, float value, const lax_easing *e);
 
 /* The same with a frame, whose time may be -0. Refuses as lax_track_push_eased. */
-lax_track_changed lax_track_push_frame(lax_track t, lax_keyframe frame);
+uint32_t lax_track_push_frame(lax_track *t, const lax_keyframe *frame);
 
-/* Another mode. Clears complete, keeps elapsed and loop_count. Refuses 11 where the passes or the
- * total is beyond its limit. */
-lax_track_changed lax_track_looping(lax_track t, lax_loop mode);
+/* Another mode, whose words are stored as they are. Clears complete, keeps elapsed and loop_count.
+ * Refuses 11 where the passes or the total is beyond its limit. */
+uint32_t lax_track_looping(lax_track *t, const lax_loop *mode);
 
 /* The value at so many seconds; NaN and what is below 0 count as 0, and from the last frame on it
  * is the last value. Refuses 10. */
-lax_found lax_track_value_at(lax_track t, float secs);
+uint32_t lax_track_value_at(const lax_track *t, float secs, lax_found *out);
 
 /* The value at the active time. Refuses 10. */
-lax_found lax_track_value(lax_track t);
+uint32_t lax_track_value(const lax_track *t, lax_found *out);
 
 /* The values at many times, into the front of out; what lies behind it keeps its numbers. Refuses
  * 10, and 12 where out is shorter than times. */
-lax_filled lax_track_values_at(lax_track t, const float *times, size_t times_len, float *out, size_t out_len);
+uint32_t lax_track_values_at(const lax_track *t, const float *times, uint64_t times_len, float *out,
+                             uint64_t out_len, lax_filled *filled);
 
-lax_value lax_track_active_time(lax_track t);       /* where in a pass, in seconds */
-lax_value lax_track_duration(lax_track t);          /* of one pass: the last frame's time */
-lax_value lax_track_playback_duration(lax_track t); /* of all passes; infinity where there is no end */
-lax_value lax_track_progress(lax_track t);          /* of all passes, or of this one where there is no end */
-lax_flag lax_track_is_complete(lax_track t);        /* 1 with fewer than two frames, too */
+uint32_t lax_track_active_time(const lax_track *t, float *out);       /* where in a pass, in seconds */
+uint32_t lax_track_duration(const lax_track *t, float *out);          /* of one pass: the last frame's time */
+uint32_t lax_track_playback_duration(const lax_track *t, float *out); /* of all passes; infinity without an end */
+uint32_t lax_track_progress(const lax_track *t, float *out);          /* of all passes; of this one without an end */
+uint32_t lax_track_is_complete(const lax_track *t, uint32_t *out);    /* 1 with fewer than two frames, too */
 
-lax_track_changed lax_track_reset(lax_track t);
-lax_track_changed lax_track_seek_to(lax_track t, float progress); /* measured as progress is; refuses 1 */
+uint32_t lax_track_reset(lax_track *t);
+uint32_t lax_track_seek_to(lax_track *t, float progress); /* measured as progress is; refuses 1 */
 
 /* A step of so many seconds; NaN and what is below 0 count as 0. Changes nothing once complete or
- * with fewer than two frames. Refuses 5, 6, and 8 in the modes without an end. */
-lax_track_updated lax_track_update(lax_track t, float step);
+ * with fewer than two frames, and then running is 0; else it is 1 until complete. Refuses 5, 6, and 8 in
+ * the modes without an end. */
+uint32_t lax_track_update(lax_track *t, float step, uint32_t *running);
 
 /* Event logs. A log is the bytes P, E, L, a 16-bit version, 1, and records of 8 bytes: a 16-bit number,
  * the event's kind, a zero byte, and the step's bits in 4 bytes, 0 where the kind is no step. Numbers
  * have their low byte first. Records count from 0, and 65,535 is followed by 0. */
 
-/* The head, 5 bytes at the buffer's start; other bytes stay. Refuses 13. */
-lax_logged lax_log_head(uint8_t *buffer, size_t buffer_len);
+/* The head, 5 bytes at the buffer's start; other bytes stay. written becomes the log's length, 5.
+ * Refuses 13. */
+uint32_t lax_log_head(uint8_t *buffer, uint64_t buffer_len, uint64_t *written);
 
-/* One record, behind the first `written` bytes; other bytes stay. -0 is written as +0. Refuses 5 and 14
- * for the step, 17 where `written` is beyond the buffer, 15, 16, 17 where it is not 5 plus a multiple
- * of 8, and 13, in this order. */
-lax_logged lax_log_record(uint8_t *buffer, size_t buffer_len, size_t written, lax_event event);
+/* One record, behind the first `*written` bytes; other bytes stay, and written becomes the log's new
+ * length. -0 is written as +0. Refuses 5 and 14 for the step, 17 where the length is beyond the buffer, 15,
+ * 16, 17 where it is not 5 plus a multiple of 8, and 13, in this order. */
+uint32_t lax_log_record(uint8_t *buffer, uint64_t buffer_len, uint64_t *written, const lax_event *event);
 
-/* A log from its head on, replayed into a tween. For each record that is read, how many are missing
- * before it goes into gaps: 0 for the first; 65,535 marks the number of the record before again, a
- * repeat, which is not replayed. Refuses 4, 15, 16, 17 where the last record is not whole, and 12 where
- * gaps is shorter than the records are many, in this order, before any record is replayed. It stops at
- * the first record that the tween refuses, or that is wrong, 18; gaps is unwritten from there on. A
- * loss of 65,535 records or more between two can't be told rightly. */
-lax_replayed lax_log_replay(lax_tween t, const uint8_t *log, size_t log_len, uint16_t *gaps, size_t gaps_len);
+/* A log from its head on, replayed into a tween. What reached says before the call is not looked at. For
+ * each record that is read, how many are missing before it goes into gaps: 0 for the first; 65,535 marks
+ * the number of the record before again, a repeat, which is not replayed. Refuses 4, 15, 16, 17 where the
+ * last record is not whole, and 12 where gaps is shorter than the records are many, in this order, before
+ * any record is replayed. It stops at the first record that the tween refuses, or that is wrong, 18: it
+ * returns that refusal, the tween and reached are as they stood before that record, and gaps is unwritten
+ * from there on. A loss of 65,535 records or more between two can't be told rightly. */
+uint32_t lax_log_replay(lax_tween *t, const uint8_t *log, uint64_t log_len, uint16_t *gaps, uint64_t gaps_len,
+                        lax_replay *reached);
 
 /* Goes on with the whole records that follow: a log read part by part gives what it gives in one call.
  * Refuses 17 and 12, and stops, as lax_log_replay; LAX_UNKNOWN_WORD for a `last` above LAX_NO_RECORD
  * too. done counts the records of this part. */
-lax_replayed lax_log_replay_on(lax_replay reached, const uint8_t *records, size_t records_len, uint16_t *gaps,
-                               size_t gaps_len);
+uint32_t lax_log_replay_on(lax_tween *t, const uint8_t *records, uint64_t records_len, uint16_t *gaps,
+                           uint64_t gaps_len, lax_replay *reached);
 
 #ifdef __cplusplus
 }

@@ -2,7 +2,7 @@
 use crate::ffi::lax_tween_update;
 use crate::meaning::easing_words;
 use crate::rules::{FOREVER, RUNNING};
-use crate::words::{LaxKeyframe, LaxLoop, LaxTrack, LaxTween};
+use crate::words::{LaxKeyframe, LaxLoop, LaxTrack, LaxTween, UpdatedPlace};
 use oracle::Easing;
 
 struct Chance(u64);
@@ -53,9 +53,9 @@ pub fn stepping(folds: u32, count: usize) -> (LaxTween, Vec<f32>) {
             0 => 0.25 + chance.part() / 2.0,
             _ => folds as f32 + 0.1 + 0.8 * chance.part() - moving.elapsed,
         };
-        let updated = lax_tween_update(moving, step);
-        assert_eq!((updated.number, updated.folds), (0, folds), "step {step}");
-        moving = updated.tween;
+        let mut out = UpdatedPlace::default();
+        let number = lax_tween_update(&mut moving, step, &mut out);
+        assert_eq!((number, out.folds), (0, folds), "step {step}");
         step
     });
     let steps = steps.collect();

@@ -1,5 +1,4 @@
 //! One side of a case: the calls that are timed, and the checksum of their answers.
-use crate::words::LaxFound;
 
 pub trait Side {
     /// One pass over the inputs.
@@ -38,7 +37,14 @@ impl Answer for Option<f32> {
     }
 }
 
-impl Answer for LaxFound {
+/// What a call answered: its number, and the value in the lent place.
+#[derive(Clone, Copy, Default)]
+pub struct Valued {
+    pub number: u32,
+    pub value: f32,
+}
+
+impl Answer for Valued {
     /// A refusal's number stands above the value, so that it shows.
     fn bits(self) -> u64 {
         self.value.bits() | u64::from(self.number) << 32

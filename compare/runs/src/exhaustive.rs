@@ -1,9 +1,9 @@
 //! Every f32 from 0 to 1, for each supplied kind at the parameters of `all_named`. A kind that is done is
 //! noted in a file, with the hashes of the archive and of the sources, and is left out the next time.
+use crate::calls::easing_apply;
 use crate::compared;
 use crate::cores::on_all_cores;
 use crate::difference::same;
-use crate::ffi::lax_easing_apply;
 use crate::meaning::{self, name};
 use crate::rules::is_one_of_twelve;
 use crate::search;
@@ -62,7 +62,7 @@ fn expected(easing: &Easing, words: &LaxEasing, t: f32) -> LaxFound {
 fn show(easing: &Easing, bits: u32) {
     let (words, t) = (meaning::easing_words(easing), f32::from_bits(bits));
     println!("{}: difference at 0x{bits:08x} ({t:?})", name(easing));
-    println!("    ours:     {}", shown(lax_easing_apply(words, t)));
+    println!("    ours:     {}", shown(easing_apply(&words, t)));
     println!("    expected: {}", shown(expected(easing, &words, t)));
 }
 
@@ -91,7 +91,7 @@ fn first_in(easing: &Easing, from: u32) -> u32 {
     let words = meaning::easing_words(easing);
     let differs = |bits: &u32| {
         let t = f32::from_bits(*bits);
-        same("easing apply", &lax_easing_apply(words, t), &expected(easing, &words, t)).is_err()
+        same("easing apply", &easing_apply(&words, t), &expected(easing, &words, t)).is_err()
     };
     (from..=ONE.min(from + PIECE - 1)).find(differs).unwrap_or(u32::MAX)
 }

@@ -3,104 +3,118 @@
 use crate::words::*;
 
 unsafe extern "C" {
-    pub safe fn lax_easing_apply(e: LaxEasing, t: f32) -> LaxFound;
-    pub safe fn lax_easing_eq(x: LaxEasing, y: LaxEasing) -> LaxFlag;
-    pub safe fn lax_easing_is_supplied(e: LaxEasing) -> LaxFlag;
-    pub safe fn lax_easing_named(place: u32) -> LaxEasingAnswer;
+    pub safe fn lax_easing_apply(e: &LaxEasing, t: f32, out: &mut FoundPlace) -> u32;
+    pub safe fn lax_easing_eq(x: &LaxEasing, y: &LaxEasing, out: &mut u32) -> u32;
+    pub safe fn lax_easing_is_supplied(e: &LaxEasing, out: &mut u32) -> u32;
+    pub safe fn lax_easing_named(place: u32, out: &mut LaxEasing) -> u32;
 
-    pub safe fn lax_tween_new(start: f32, end: f32) -> LaxTween;
-    pub safe fn lax_tween_value(t: LaxTween) -> LaxFound;
-    pub safe fn lax_tween_progress(t: LaxTween) -> LaxValue;
-    pub safe fn lax_tween_eased_progress(t: LaxTween) -> LaxFound;
-    pub safe fn lax_tween_snapshot(t: LaxTween) -> LaxSnapshot;
-    pub safe fn lax_tween_playback_duration(t: LaxTween) -> LaxValue;
-    pub safe fn lax_tween_reset(t: LaxTween) -> LaxChanged;
-    pub safe fn lax_tween_seek(t: LaxTween, progress: f32) -> LaxChanged;
-    pub safe fn lax_tween_reverse(t: LaxTween) -> LaxChanged;
-    pub safe fn lax_tween_pause(t: LaxTween) -> LaxChanged;
-    pub safe fn lax_tween_resume(t: LaxTween) -> LaxChanged;
-    pub safe fn lax_tween_update(t: LaxTween, step: f32) -> LaxUpdated;
+    pub safe fn lax_tween_new(t: &mut LaxTween, start: f32, end: f32) -> u32;
+    pub safe fn lax_tween_value(t: &LaxTween, out: &mut FoundPlace) -> u32;
+    pub safe fn lax_tween_progress(t: &LaxTween, out: &mut f32) -> u32;
+    pub safe fn lax_tween_eased_progress(t: &LaxTween, out: &mut FoundPlace) -> u32;
+    pub safe fn lax_tween_snapshot(t: &LaxTween, out: &mut SnapshotPlace) -> u32;
+    pub safe fn lax_tween_playback_duration(t: &LaxTween, out: &mut f32) -> u32;
+    pub safe fn lax_tween_reset(t: &mut LaxTween) -> u32;
+    pub safe fn lax_tween_seek(t: &mut LaxTween, progress: f32) -> u32;
+    pub safe fn lax_tween_reverse(t: &mut LaxTween) -> u32;
+    pub safe fn lax_tween_pause(t: &mut LaxTween) -> u32;
+    pub safe fn lax_tween_resume(t: &mut LaxTween) -> u32;
+    pub safe fn lax_tween_update(t: &mut LaxTween, step: f32, out: &mut UpdatedPlace) -> u32;
     fn lax_tween_run(
-        t: LaxTween,
+        t: &mut LaxTween,
         steps: *const f32,
-        steps_len: usize,
+        steps_len: u64,
         values: *mut f32,
-        values_len: usize,
+        values_len: u64,
         folds: *mut u32,
-        folds_len: usize,
-    ) -> LaxRun;
+        folds_len: u64,
+        out: &mut CountedPlace,
+    ) -> u32;
 
-    pub safe fn lax_track_new() -> LaxTrack;
-    pub safe fn lax_track_push(t: LaxTrack, time: f32, value: f32) -> LaxTrackChanged;
-    pub safe fn lax_track_push_eased(t: LaxTrack, time: f32, value: f32, e: LaxEasing) -> LaxTrackChanged;
-    pub safe fn lax_track_push_frame(t: LaxTrack, frame: LaxKeyframe) -> LaxTrackChanged;
-    pub safe fn lax_track_looping(t: LaxTrack, mode: LaxLoop) -> LaxTrackChanged;
-    pub safe fn lax_track_value_at(t: LaxTrack, secs: f32) -> LaxFound;
-    pub safe fn lax_track_value(t: LaxTrack) -> LaxFound;
+    pub safe fn lax_track_new(t: &mut LaxTrack) -> u32;
+    pub safe fn lax_track_push(t: &mut LaxTrack, time: f32, value: f32) -> u32;
+    pub safe fn lax_track_push_eased(t: &mut LaxTrack, time: f32, value: f32, e: &LaxEasing) -> u32;
+    pub safe fn lax_track_push_frame(t: &mut LaxTrack, frame: &LaxKeyframe) -> u32;
+    pub safe fn lax_track_looping(t: &mut LaxTrack, mode: &LaxLoop) -> u32;
+    pub safe fn lax_track_value_at(t: &LaxTrack, secs: f32, out: &mut FoundPlace) -> u32;
+    pub safe fn lax_track_value(t: &LaxTrack, out: &mut FoundPlace) -> u32;
     fn lax_track_values_at(
-        t: LaxTrack,
+        t: &LaxTrack,
         times: *const f32,
-        times_len: usize,
+        times_len: u64,
         out: *mut f32,
-        out_len: usize,
-    ) -> LaxFilled;
-    pub safe fn lax_track_update(t: LaxTrack, step: f32) -> LaxTrackUpdated;
-    pub safe fn lax_track_active_time(t: LaxTrack) -> LaxValue;
-    pub safe fn lax_track_duration(t: LaxTrack) -> LaxValue;
-    pub safe fn lax_track_playback_duration(t: LaxTrack) -> LaxValue;
-    pub safe fn lax_track_progress(t: LaxTrack) -> LaxValue;
-    pub safe fn lax_track_is_complete(t: LaxTrack) -> LaxFlag;
-    pub safe fn lax_track_reset(t: LaxTrack) -> LaxTrackChanged;
-    pub safe fn lax_track_seek_to(t: LaxTrack, progress: f32) -> LaxTrackChanged;
+        out_len: u64,
+        filled: &mut CountedPlace,
+    ) -> u32;
+    pub safe fn lax_track_update(t: &mut LaxTrack, step: f32, running: &mut u32) -> u32;
+    pub safe fn lax_track_active_time(t: &LaxTrack, out: &mut f32) -> u32;
+    pub safe fn lax_track_duration(t: &LaxTrack, out: &mut f32) -> u32;
+    pub safe fn lax_track_playback_duration(t: &LaxTrack, out: &mut f32) -> u32;
+    pub safe fn lax_track_progress(t: &LaxTrack, out: &mut f32) -> u32;
+    pub safe fn lax_track_is_complete(t: &LaxTrack, out: &mut u32) -> u32;
+    pub safe fn lax_track_reset(t: &mut LaxTrack) -> u32;
+    pub safe fn lax_track_seek_to(t: &mut LaxTrack, progress: f32) -> u32;
 
-    fn lax_log_head(buffer: *mut u8, buffer_len: usize) -> LaxLogged;
-    fn lax_log_record(buffer: *mut u8, buffer_len: usize, written: usize, event: LaxEvent) -> LaxLogged;
+    fn lax_log_head(buffer: *mut u8, buffer_len: u64, written: &mut u64) -> u32;
+    fn lax_log_record(buffer: *mut u8, buffer_len: u64, written: &mut u64, event: &LaxEvent) -> u32;
     fn lax_log_replay(
-        t: LaxTween,
+        t: &mut LaxTween,
         log: *const u8,
-        log_len: usize,
+        log_len: u64,
         gaps: *mut u16,
-        gaps_len: usize,
-    ) -> LaxReplayed;
+        gaps_len: u64,
+        reached: &mut ReplayPlace,
+    ) -> u32;
     fn lax_log_replay_on(
-        reached: LaxReplay,
+        t: &mut LaxTween,
         records: *const u8,
-        records_len: usize,
+        records_len: u64,
         gaps: *mut u16,
-        gaps_len: usize,
-    ) -> LaxReplayed;
+        gaps_len: u64,
+        reached: &mut ReplayPlace,
+    ) -> u32;
 }
 
-pub fn tween_run(t: LaxTween, steps: &[f32], values: &mut [f32], folds: &mut [u32]) -> LaxRun {
+pub fn tween_run(
+    t: &mut LaxTween,
+    steps: &[f32],
+    values: &mut [f32],
+    folds: &mut [u32],
+    out: &mut CountedPlace,
+) -> u32 {
     unsafe {
         lax_tween_run(
             t,
             steps.as_ptr(),
-            steps.len(),
+            steps.len() as u64,
             values.as_mut_ptr(),
-            values.len(),
+            values.len() as u64,
             folds.as_mut_ptr(),
-            folds.len(),
+            folds.len() as u64,
+            out,
         )
     }
 }
 
-pub fn track_values_at(t: LaxTrack, times: &[f32], out: &mut [f32]) -> LaxFilled {
-    unsafe { lax_track_values_at(t, times.as_ptr(), times.len(), out.as_mut_ptr(), out.len()) }
+pub fn track_values_at(t: &LaxTrack, times: &[f32], out: &mut [f32], filled: &mut CountedPlace) -> u32 {
+    let (places, room) = (out.as_mut_ptr(), out.len() as u64);
+    unsafe { lax_track_values_at(t, times.as_ptr(), times.len() as u64, places, room, filled) }
 }
 
-pub fn log_head(buffer: &mut [u8]) -> LaxLogged {
-    unsafe { lax_log_head(buffer.as_mut_ptr(), buffer.len()) }
+pub fn log_head(buffer: &mut [u8], written: &mut u64) -> u32 {
+    unsafe { lax_log_head(buffer.as_mut_ptr(), buffer.len() as u64, written) }
 }
 
-pub fn log_record(buffer: &mut [u8], written: usize, event: LaxEvent) -> LaxLogged {
-    unsafe { lax_log_record(buffer.as_mut_ptr(), buffer.len(), written, event) }
+pub fn log_record(buffer: &mut [u8], written: &mut u64, event: &LaxEvent) -> u32 {
+    unsafe { lax_log_record(buffer.as_mut_ptr(), buffer.len() as u64, written, event) }
 }
 
-pub fn log_replay(t: LaxTween, log: &[u8], gaps: &mut [u16]) -> LaxReplayed {
-    unsafe { lax_log_replay(t, log.as_ptr(), log.len(), gaps.as_mut_ptr(), gaps.len()) }
+pub fn log_replay(t: &mut LaxTween, log: &[u8], gaps: &mut [u16], reached: &mut ReplayPlace) -> u32 {
+    let (list, room) = (gaps.as_mut_ptr(), gaps.len() as u64);
+    unsafe { lax_log_replay(t, log.as_ptr(), log.len() as u64, list, room, reached) }
 }
 
-pub fn log_replay_on(reached: LaxReplay, records: &[u8], gaps: &mut [u16]) -> LaxReplayed {
-    unsafe { lax_log_replay_on(reached, records.as_ptr(), records.len(), gaps.as_mut_ptr(), gaps.len()) }
+pub fn log_replay_on(t: &mut LaxTween, records: &[u8], gaps: &mut [u16], reached: &mut ReplayPlace) -> u32 {
+    let (list, room) = (gaps.as_mut_ptr(), gaps.len() as u64);
+    unsafe { lax_log_replay_on(t, records.as_ptr(), records.len() as u64, list, room, reached) }
 }

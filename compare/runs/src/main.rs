@@ -1,5 +1,6 @@
 //! The proved library held against animato's Rust. See compare/README.md.
 mod audit;
+mod calls;
 mod cores;
 mod difference;
 mod edges;

@@ -114,6 +114,28 @@ pub fn tween_words(t: &Tween<f32>) -> LaxTween {
     }
 }
 
+/// The tween that came, with what a call may change as another has it. The other words stay as they came.
+pub fn tween_onto(came: &LaxTween, t: &LaxTween) -> LaxTween {
+    LaxTween {
+        start: t.start,
+        end: t.end,
+        elapsed: t.elapsed,
+        delay_elapsed: t.delay_elapsed,
+        state: t.state,
+        loop_count: t.loop_count,
+        ping_pong_reverse: t.ping_pong_reverse,
+        ..*came
+    }
+}
+
+/// A frame with the words of one that means the same, where there is one.
+pub fn frame_onto<'a>(came: impl Iterator<Item = &'a LaxKeyframe>, frame: &LaxKeyframe) -> LaxKeyframe {
+    let meant = |e: &LaxEasing| easing_words(&easing(e)).words() == frame.easing.words();
+    let same = |k: &&LaxKeyframe| k.time == frame.time && meant(&k.easing);
+    let easing = { came }.find(same).map_or(frame.easing, |k| k.easing);
+    LaxKeyframe { easing, ..*frame }
+}
+
 pub fn track(w: &LaxTrack) -> KeyframeTrack<f32> {
     let frame = |frame: &LaxKeyframe| Keyframe {
         time: frame.time,

@@ -160,48 +160,96 @@ unsafe impl Words for LaxTrack {
     }
 }
 
-/// An answer: its number, words of its own, and a record where it has one.
+/// What a call writes into a place that it is lent, and its whole answer: the number, then the place.
 macro_rules! answer {
-    ($name:ident { $($word:ident: $type:ty, $kind:expr;)* } $($part:ident: $record:ty)?) => {
+    ($name:ident, $place:ident { $($word:ident: $type:ty, $kind:expr;)* }) => {
+        #[repr(C)]
+        #[derive(Clone, Copy, Default)]
+        pub struct $place {
+            $(pub $word: $type,)*
+        }
+
+        unsafe impl Words for $place {
+            fn layout() -> Layout {
+                named(&[$((stringify!($word), $kind),)*])
+            }
+        }
+
         #[repr(C)]
         #[derive(Clone, Copy, Default)]
         pub struct $name {
             pub number: u32,
             $(pub $word: $type,)*
-            $(pub $part: $record,)?
+        }
+
+        impl $name {
+            pub fn of((number, place): (u32, $place)) -> Self {
+                Self { number, $($word: place.$word,)* }
+            }
         }
 
         unsafe impl Words for $name {
             fn layout() -> Layout {
-                #[allow(unused_mut)]
-                let mut layout = named(&[("number", Whole), $((stringify!($word), $kind),)*]);
-                $(layout.extend(under(stringify!($part), <$record>::layout()));)?
-                layout
+                [named(&[("number", Whole)]), $place::layout()].concat()
             }
         }
     };
 }
 
-answer!(LaxValue { value: f32, Float; });
-answer!(LaxFound {
+answer!(LaxValue, ValuePlace { value: f32, Float; });
+answer!(LaxFound, FoundPlace {
     value: f32, Float;
     settled: u32, Whole;
     xs: u32, Whole;
     derivatives: u32, Whole;
 });
-answer!(LaxFlag { flag: u32, Whole; });
-answer!(LaxEasingAnswer {} easing: LaxEasing);
-answer!(LaxSnapshot {
+answer!(LaxFlag, FlagPlace { flag: u32, Whole; });
+answer!(LaxSnapshot, SnapshotPlace {
     elapsed: f32, Float;
     delay_elapsed: f32, Float;
     state: u32, Whole;
     loop_count: u32, Whole;
     ping_pong_reverse: u32, Whole;
 });
-answer!(LaxChanged {} tween: LaxTween);
-answer!(LaxUpdated { folds: u32, Whole; running: u32, Whole; } tween: LaxTween);
-answer!(LaxTrackChanged {} track: LaxTrack);
-answer!(LaxTrackUpdated { running: u32, Whole; } track: LaxTrack);
+
+#[repr(C)]
+#[derive(Clone, Copy, Default)]
+pub struct UpdatedPlace {
+    pub folds: u32,
+    pub running: u32,
+}
+
+unsafe impl Words for UpdatedPlace {
+    fn layout() -> Layout {
+        named(&[("folds", Whole), ("running", Whole)])
+    }
+}
+
+/// The answer of a call that changes a record: the number, words of its own, and the record afterwards.
+macro_rules! changed {
+    ($name:ident { $($word:ident,)* } $part:ident: $record:ty) => {
+        #[repr(C)]
+        #[derive(Clone, Copy, Default)]
+        pub struct $name {
+            pub number: u32,
+            $(pub $word: u32,)*
+            pub $part: $record,
+        }
+
+        unsafe impl Words for $name {
+            fn layout() -> Layout {
+                let words = named(&[("number", Whole), $((stringify!($word), Whole),)*]);
+                [words, under(stringify!($part), <$record>::layout())].concat()
+            }
+        }
+    };
+}
+
+changed!(LaxEasingAnswer {} easing: LaxEasing);
+changed!(LaxChanged {} tween: LaxTween);
+changed!(LaxUpdated { folds, running, } tween: LaxTween);
+changed!(LaxTrackChanged {} track: LaxTrack);
+changed!(LaxTrackUpdated { running, } track: LaxTrack);
 
 #[repr(C)]
 #[derive(Clone, Copy, Debug, Default)]
@@ -216,14 +264,30 @@ unsafe impl Words for LaxEvent {
     }
 }
 
+/// How far a call came: steps taken or values written, and how many of the values are not settled.
 #[repr(C)]
+#[derive(Clone, Copy)]
+pub struct CountedPlace {
+    pub count: u64,
+    pub unsettled: u64,
+}
+
+/// How far a replay came, beside its tween.
+#[repr(C)]
+#[derive(Clone, Copy, PartialEq)]
+pub struct ReplayPlace {
+    pub missing: u64,
+    pub folds: u64,
+    pub last: u64,
+    pub done: u64,
+}
+
 #[derive(Clone, Copy)]
 pub struct LaxLogged {
     pub written: usize,
     pub number: u32,
 }
 
-#[repr(C)]
 #[derive(Clone, Copy)]
 pub struct LaxReplay {
     pub missing: u64,
@@ -232,7 +296,6 @@ pub struct LaxReplay {
     pub tween: LaxTween,
 }
 
-#[repr(C)]
 #[derive(Clone, Copy)]
 pub struct LaxReplayed {
     pub done: usize,
@@ -240,7 +303,6 @@ pub struct LaxReplayed {
     pub reached: LaxReplay,
 }
 
-#[repr(C)]
 #[derive(Clone, Copy)]
 pub struct LaxRun {
     pub done: usize,
@@ -249,7 +311,6 @@ pub struct LaxRun {
     pub tween: LaxTween,
 }
 
-#[repr(C)]
 #[derive(Clone, Copy)]
 pub struct LaxFilled {
     pub filled: usize,
@@ -262,17 +323,10 @@ const _: () = {
     assert!(size_of::<LaxTween>() == 72);
     assert!(size_of::<LaxKeyframe>() == 32);
     assert!(size_of::<LaxTrack>() == 2072);
-    assert!(size_of::<LaxFound>() == 20);
-    assert!(size_of::<LaxEasingAnswer>() == 28);
-    assert!(size_of::<LaxSnapshot>() == 24);
-    assert!(size_of::<LaxChanged>() == 76);
-    assert!(size_of::<LaxUpdated>() == 84);
-    assert!(size_of::<LaxTrackChanged>() == 2076);
-    assert!(size_of::<LaxTrackUpdated>() == 2080);
-    assert!(size_of::<LaxRun>() == 96);
-    assert!(size_of::<LaxFilled>() == 24);
+    assert!(size_of::<FoundPlace>() == 16);
+    assert!(size_of::<SnapshotPlace>() == 20);
+    assert!(size_of::<UpdatedPlace>() == 8);
+    assert!(size_of::<CountedPlace>() == 16);
     assert!(size_of::<LaxEvent>() == 8);
-    assert!(size_of::<LaxLogged>() == 16);
-    assert!(size_of::<LaxReplay>() == 96);
-    assert!(size_of::<LaxReplayed>() == 112);
+    assert!(size_of::<ReplayPlace>() == 32);
 };

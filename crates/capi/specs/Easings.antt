@@ -1,44 +1,46 @@
--- What the exported calls of an easing answer: the easing read from its words, the library's definition, the answer's words.
+-- The calls of an easing: the easing read from its six words, the library's definition, and what goes into the lent place.
 use Prim.Native.Nat.{ℕ}
+use mathlib.Core.List.{List, [], _∷_}
 use lib.ListN.{getD}
 use lib.Ieee.{Float}
+use Rattle.math.specs.Bits.{bitsOf}
 use Rattle.refusal.specs.Refusing.{unless}
+use Rattle.easing.specs.declared.kinds.Easing.{Easing}
 use Rattle.easing.specs.declared.kinds.Easing.the-variants.{Linear}
+use Rattle.easing.specs.declared.answers.Equality.{Equality}
+use Rattle.easing.specs.declared.answers.Equality.the-variants as equality
 use Rattle.easing.specs.Kinds.{suppliedOf, allNamed}
 use Rattle.easing.specs.Apply.{applyOf, eqOf}
 use Rattle.words.specs.declared.kinds.LaxEasing.{LaxEasing}
 use Rattle.words.specs.declared.kinds.EasingRead.{EasingRead}
 use Rattle.words.specs.declared.kinds.EasingRead.the-variants.{Known, Unknown}
-use Rattle.words.specs.Kinds.{unknownWord, isKind, easingFrom, easingWords}
-use Rattle.capi.specs.declared.answers.LaxFound.{LaxFound}
-use Rattle.capi.specs.declared.answers.LaxFlag.{LaxFlag}
-use Rattle.capi.specs.declared.answers.LaxEasingAnswer.{LaxEasingAnswer}
-use Rattle.capi.specs.Answers.{noFound, foundWords, noFlag, flagWords, equalityWords}
+use Rattle.words.specs.Kinds.{isKind, easingFrom, easingWords}
+use Rattle.words.specs.Lent.{easingAt}
+use Rattle.capi.specs.Answers.{Answer, accepted, refused, unknown, foundIn, flagIn}
 
-abbrev pub applied : EasingRead → Float → LaxFound
-applied (Known e) t = foundWords (applyOf e t)
-applied Unknown t = noFound unknownWord
+abbrev pub onEasing : {A : Type 0} → EasingRead → A → (Easing → Answer A) → Answer A
+onEasing (Known e) came answer = answer e
+onEasing Unknown came answer = unknown came
 
-unfoldable pub laxEasingApply : LaxEasing → Float → LaxFound
-laxEasingApply w t = applied (easingFrom w) t
+unfoldable pub laxEasingApply : List ℕ → Float → List ℕ → Answer (List ℕ)
+laxEasingApply ws t out = onEasing (easingFrom (easingAt ws 0)) out (λ e. foundIn out (applyOf e t))
 
-abbrev pub compared : EasingRead → EasingRead → LaxFlag
-compared (Known x) (Known y) = equalityWords (eqOf x y)
-compared (Known x) Unknown = noFlag unknownWord
-compared Unknown y = noFlag unknownWord
+unfoldable pub equalityIn : ℕ → Equality → Answer ℕ
+equalityIn out (equality.Equal b) = flagIn b
+equalityIn out (equality.Refused r) = refused out r
 
-unfoldable pub laxEasingEq : LaxEasing → LaxEasing → LaxFlag
-laxEasingEq v w = compared (easingFrom v) (easingFrom w)
+unfoldable pub laxEasingEq : List ℕ → List ℕ → ℕ → Answer ℕ
+laxEasingEq vs ws out =
+    onEasing (easingFrom (easingAt vs 0)) out (λ x.
+    onEasing (easingFrom (easingAt ws 0)) out (λ y. equalityIn out (eqOf x y)))
 
-abbrev pub supplied : EasingRead → LaxFlag
-supplied (Known e) = flagWords (suppliedOf e)
-supplied Unknown = noFlag unknownWord
+unfoldable pub laxEasingIsSupplied : List ℕ → ℕ → Answer ℕ
+laxEasingIsSupplied ws out = onEasing (easingFrom (easingAt ws 0)) out (λ e. flagIn (suppliedOf e))
 
-unfoldable pub laxEasingIsSupplied : LaxEasing → LaxFlag
-laxEasingIsSupplied w = supplied (easingFrom w)
+-- an easing as six words
+abbrev pub easingList : LaxEasing → List ℕ
+easingList w = w .kind ∷ bitsOf (w .a) ∷ bitsOf (w .b) ∷ bitsOf (w .c) ∷ bitsOf (w .d) ∷ w .count ∷ []
 
 -- a place beyond 37 is no kind
-unfoldable pub laxEasingNamed : ℕ → LaxEasingAnswer
-laxEasingNamed k =
-    unless (isKind k) (record { number = unknownWord; easing = easingWords Linear })
-    (record { number = 0; easing = easingWords (getD allNamed k Linear) })
+unfoldable pub laxEasingNamed : ℕ → List ℕ → Answer (List ℕ)
+laxEasingNamed k out = unless (isKind k) (unknown out) (accepted (easingList (easingWords (getD allNamed k Linear))))

@@ -2,6 +2,5 @@ pub mod Answers
 pub mod Easings
 pub mod Logs
 pub mod Replays
-pub mod TrackAnswers
 pub mod Tracks
 pub mod Tweens

@@ -3,40 +3,39 @@ use Prim.Native.Nat.{ℕ}
 use mathlib.Core.List.{List}
 use mathlib.Core.Bool.{cond}
 use lib.Dec.{eqb}
-use Rattle.refusal.specs.Number.{numberOf}
 use Rattle.event_log.specs.declared.event.Event.{Event}
 use Rattle.event_log.specs.declared.event.Event.the-variants.{Step, Pause, Resume, Reset}
 use Rattle.event_log.specs.declared.writer.Logged.{Logged}
 use Rattle.event_log.specs.declared.writer.Logged.the-variants.{Written, Refused}
-use Rattle.event_log.specs.Writing.{recordIn}
-use Rattle.words.specs.Kinds.{unknownWord}
-use Rattle.capi.specs.declared.logs.LaxEvent.{LaxEvent}
-use Rattle.capi.specs.declared.logs.LaxLogged.{LaxLogged}
+use Rattle.event_log.specs.Writing.{headIn, recordIn}
+use Rattle.words.specs.Lent.{wordAt, floatAt}
 use Rattle.capi.specs.declared.logs.EventRead.{EventRead}
 use Rattle.capi.specs.declared.logs.EventRead.the-variants.{Known, Unknown}
+use Rattle.capi.specs.Answers.{Answer, accepted, refused, unknown}
 
--- the kinds have the numbers of the log's
-unfoldable pub eventFrom : LaxEvent → EventRead
-eventFrom w =
-    cond (eqb (w .kind) 1) (Known (Step (w .step)))
-    (cond (eqb (w .kind) 2) (Known Pause)
-    (cond (eqb (w .kind) 3) (Known Resume)
-    (cond (eqb (w .kind) 4) (Known Reset)
+-- two words: the kind, with the log's numbers, and the step
+unfoldable pub eventIn : List ℕ → EventRead
+eventIn ws =
+    cond (eqb (wordAt ws 0) 1) (Known (Step (floatAt ws 1)))
+    (cond (eqb (wordAt ws 0) 2) (Known Pause)
+    (cond (eqb (wordAt ws 0) 3) (Known Resume)
+    (cond (eqb (wordAt ws 0) 4) (Known Reset)
     Unknown)))
 
--- the length of the written log, which a refusal leaves as it was
-unfoldable pub loggedWords : ℕ → Logged → LaxLogged
-loggedWords before (Written n) = record { written = n; number = 0 }
-loggedWords before (Refused r) = record { written = before; number = numberOf r }
+-- the length of the written log
+unfoldable pub lengthIn : ℕ → Logged → Answer ℕ
+lengthIn before (Written n) = accepted n
+lengthIn before (Refused r) = refused before r
+
+unfoldable pub laxLogHead : List ℕ → ℕ → Answer ℕ
+laxLogHead buffer written = lengthIn written (headIn buffer .answer)
 
 abbrev pub onEvent : {A : Type 0} → EventRead → (Event → A) → A → A
 onEvent (Known e) f a = f e
 onEvent Unknown f a = a
 
-unfoldable pub laxLogRecord : List ℕ → ℕ → LaxEvent → LaxLogged
-laxLogRecord buffer written w =
-    onEvent (eventFrom w) (λ e. loggedWords written (recordIn buffer written e .answer))
-    (record { written = written; number = unknownWord })
+unfoldable pub laxLogRecord : List ℕ → ℕ → List ℕ → Answer ℕ
+laxLogRecord buffer written ws = onEvent (eventIn ws) (λ e. lengthIn written (recordIn buffer written e .answer)) (unknown written)
 
-unfoldable pub laxLogBuffer : List ℕ → ℕ → LaxEvent → List ℕ
-laxLogBuffer buffer written w = onEvent (eventFrom w) (λ e. recordIn buffer written e .buffer) buffer
+unfoldable pub laxLogBuffer : List ℕ → ℕ → List ℕ → List ℕ
+laxLogBuffer buffer written ws = onEvent (eventIn ws) (λ e. recordIn buffer written e .buffer) buffer

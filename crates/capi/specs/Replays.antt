@@ -1,75 +1,64 @@
 -- The calls that read an event log, as the C interface has them.
 use Prim.Native.Nat.{ℕ}
-use mathlib.Core.List.{List}
+use mathlib.Core.List.{List, [], _∷_}
 use mathlib.Core.Bool.{cond}
 use lib.Dec.{ltb, eqb}
 use Rattle.steps.specs.Course.{outcomeNumber, over}
 use Rattle.reader.specs.declared.gaps.Last.{Last}
 use Rattle.reader.specs.declared.gaps.Last.the-variants.{Unread, Number}
 use Rattle.reader.specs.declared.hear.Replay.{Replay}
-use Rattle.reader.specs.declared.read.Replayed.{Replayed}
-use Rattle.reader.specs.Reading.{readOnOf, replayOf, answerOf}
-use Rattle.words.specs.declared.tweens.LaxTween.{LaxTween}
-use Rattle.words.specs.Kinds.{unknownWord}
-use Rattle.words.specs.Tweens.{tweenFrom, tweenWords}
-use Rattle.words.specs.declared.tweens.TweenRead.{TweenRead}
-use Rattle.words.specs.declared.tweens.TweenRead.the-variants as tweenRead
-use Rattle.capi.specs.declared.replays.LaxReplay.{LaxReplay}
-use Rattle.capi.specs.declared.replays.LaxReplayed.{LaxReplayed}
+use Rattle.reader.specs.Reading.{Reading, readOnOf, replayOf, answerOf}
+use Rattle.words.specs.Lent.{wordAt, tweenInto}
 use Rattle.capi.specs.declared.replays.LastRead.{LastRead}
-use Rattle.capi.specs.declared.replays.LastRead.the-variants as lastRead
-use Rattle.capi.specs.declared.replays.ReplayRead.{ReplayRead}
-use Rattle.capi.specs.declared.replays.ReplayRead.the-variants as replayRead
-use Rattle.capi.specs.Tweens.{onTween}
+use Rattle.capi.specs.declared.replays.LastRead.the-variants.{Known, Unknown}
+use Rattle.capi.specs.Answers.{Answer, unknown}
+use Rattle.capi.specs.Tweens.{onTween, idle}
 
 -- a number of 16 bits, or 65,536 where no record was read
 unfoldable pub lastFrom : ℕ → LastRead
-lastFrom n = cond (ltb n 65536) (lastRead.Known (Number n)) (cond (eqb n 65536) (lastRead.Known Unread) lastRead.Unknown)
+lastFrom n = cond (ltb n 65536) (Known (Number n)) (cond (eqb n 65536) (Known Unread) Unknown)
 
 abbrev pub lastWord : Last → ℕ
 lastWord Unread = 65536
 lastWord (Number n) = n
 
-abbrev pub replayBy : TweenRead → LastRead → LaxReplay → ReplayRead
-replayBy (tweenRead.Known t) (lastRead.Known l) w =
-    replayRead.Known (record { tween = t; last = l; missing = w .missing; folds = w .folds })
-replayBy (tweenRead.Known t) lastRead.Unknown w = replayRead.Unknown
-replayBy tweenRead.Unknown l w = replayRead.Unknown
+-- reached is four numbers: the records missing, the folds, the last number, and how many records were read
+pub record Replaying : Type 0 where
+  pub words : List ℕ
+  pub gaps : List ℕ
+  pub reached : List ℕ
 
-unfoldable pub replayFrom : LaxReplay → ReplayRead
-replayFrom w = replayBy (tweenFrom (w .tween)) (lastFrom (w .last)) w
+abbrev pub reachedWords : Replay → ℕ → List ℕ
+reachedWords s done = s .missing ∷ s .folds ∷ lastWord (s .last) ∷ done ∷ []
 
-unfoldable pub replayWords : Replay → LaxReplay
-replayWords s = record { missing = s .missing; folds = s .folds; last = lastWord (s .last); tween = tweenWords (s .tween) }
+-- a replay that stops at a record leaves what the records before it made
+unfoldable pub replayedIn : Replaying → Reading → Answer Replaying
+replayedIn came reading =
+    let r = answerOf reading in
+    let number = outcomeNumber (r .outcome) in
+    record {
+      number = number;
+      left =
+        record {
+          words = cond (eqb (r .done) 0) (came .words) (tweenInto (came .words) (r .reached .tween));
+          gaps = over (reading .gaps) (came .gaps);
+          reached = cond (idle (r .done) number) (came .reached) (reachedWords (r .reached) (r .done));
+        };
+    }
 
--- where no record was read the words are those that came
-unfoldable pub replayedWords : LaxReplay → Replayed → LaxReplayed
-replayedWords w r =
-    cond (eqb (r .done) 0) (record { done = 0; number = outcomeNumber (r .outcome); reached = w })
-    (record { done = r .done; number = outcomeNumber (r .outcome); reached = replayWords (r .reached) })
+unfoldable pub laxReplay : List ℕ → List ℕ → List ℕ → List ℕ → Answer Replaying
+laxReplay ws log gaps reached =
+    let came : Replaying = record { words = ws; gaps = gaps; reached = reached } in
+    onTween ws came (λ t. replayedIn came (replayOf t log gaps))
 
--- nothing read yet
-abbrev pub beginWords : LaxTween → LaxReplay
-beginWords w = record { missing = 0; folds = 0; last = 65536; tween = w }
+abbrev pub onLast : {A : Type 0} → LastRead → A → (Last → Answer A) → Answer A
+onLast (Known l) came answer = answer l
+onLast Unknown came answer = unknown came
 
-abbrev pub notReplayed : LaxReplay → LaxReplayed
-notReplayed w = record { done = 0; number = unknownWord; reached = w }
-
--- a log, and the lent list afterwards
-unfoldable pub laxReplay : LaxTween → List ℕ → List ℕ → LaxReplayed
-laxReplay w log gaps =
-    onTween (tweenFrom w) (λ t. replayedWords (beginWords w) (answerOf (replayOf t log gaps))) (notReplayed (beginWords w))
-
-unfoldable pub laxReplayGaps : LaxTween → List ℕ → List ℕ → List ℕ
-laxReplayGaps w log gaps = onTween (tweenFrom w) (λ t. over (replayOf t log gaps .gaps) gaps) gaps
-
-abbrev pub onReplay : {A : Type 0} → ReplayRead → (Replay → A) → A → A
-onReplay (replayRead.Known s) known unknown = known s
-onReplay replayRead.Unknown known unknown = unknown
-
--- the records that follow, and the lent list afterwards
-unfoldable pub laxReplayOn : LaxReplay → List ℕ → List ℕ → LaxReplayed
-laxReplayOn w records gaps = onReplay (replayFrom w) (λ s. replayedWords w (answerOf (readOnOf s records gaps))) (notReplayed w)
-
-unfoldable pub laxReplayOnGaps : LaxReplay → List ℕ → List ℕ → List ℕ
-laxReplayOnGaps w records gaps = onReplay (replayFrom w) (λ s. over (readOnOf s records gaps .gaps) gaps) gaps
+-- the records that follow
+unfoldable pub laxReplayOn : List ℕ → List ℕ → List ℕ → List ℕ → Answer Replaying
+laxReplayOn ws records gaps reached =
+    let came : Replaying = record { words = ws; gaps = gaps; reached = reached } in
+    onTween ws came (λ t.
+    onLast (lastFrom (wordAt reached 2)) came (λ l.
+    replayedIn came (readOnOf (record { tween = t; last = l; missing = wordAt reached 0; folds = wordAt reached 1 }) records gaps)))

@@ -1,90 +1,125 @@
--- What the exported calls of a track answer: the track read from its words, the library's definition, the answer's words.
-use mathlib.Core.List.{List}
-use lib.ListN.{replicate}
+-- The calls of a track: the track read from its 518 words, the library's definition, and what is left in the lent words and places.
+use Prim.Native.Nat.{ℕ}
+use mathlib.Core.Bool.{cond}
+use mathlib.Core.List.{List, [], _∷_}
+use lib.Dec.{eqb}
+use lib.ListN.{set, replicate}
 use lib.Ieee.{Float}
 use Rattle.refusal.specs.Refusing.{unless}
-use Rattle.frames.specs.Limits.{blank}
 use Rattle.keyframe.specs.declared.types.Track.{Track}
-use Rattle.keyframe.specs.Pushing.{newTrack, pushOf, loopingOf}
+use Rattle.keyframe.specs.declared.types.Changed.{Changed}
+use Rattle.keyframe.specs.declared.types.Outcome.{Outcome}
+use Rattle.keyframe.specs.declared.types.Outcome.the-variants as outcome
+use Rattle.keyframe.specs.declared.types.Updated.{Updated}
+use Rattle.keyframe.specs.declared.types.Stepped.{Stepped}
+use Rattle.keyframe.specs.declared.types.Stepped.the-variants as stepped
+use Rattle.keyframe.specs.declared.types.Filled.{Filled}
+use Rattle.keyframe.specs.declared.types.Completion.{Completion}
+use Rattle.keyframe.specs.declared.types.Completion.the-variants as completion
+use Rattle.keyframe.specs.Pushing.{loopingOf}
 use Rattle.keyframe.specs.Sampling.{valueAtOf, valueNow}
 use Rattle.keyframe.specs.Batch.{batchOut, batchAnswer}
 use Rattle.keyframe.specs.Playback.{activeTimeOf, durationIn, playbackIn, progressOf, completeOf}
 use Rattle.keyframe.specs.Stepping.{resetOf, seekToOf, updateOf}
-use Rattle.words.specs.declared.modes.LaxLoop.{LaxLoop}
 use Rattle.words.specs.declared.modes.LoopRead.{LoopRead}
 use Rattle.words.specs.declared.modes.LoopRead.the-variants as mode
-use Rattle.words.specs.declared.tracks.LaxKeyframe.{LaxKeyframe}
-use Rattle.words.specs.declared.tracks.FrameRead.{FrameRead}
-use Rattle.words.specs.declared.tracks.FrameRead.the-variants as frame
-use Rattle.words.specs.declared.tracks.LaxTrack.{LaxTrack}
-use Rattle.words.specs.Kinds.{unknownWord}
-use Rattle.words.specs.Modes.{loopFrom}
-use Rattle.words.specs.Tracks.{frameRead, knownTrack, trackFrom, frameWords, trackWords}
-use Rattle.capi.specs.declared.answers.LaxValue.{LaxValue}
-use Rattle.capi.specs.declared.answers.LaxFound.{LaxFound}
-use Rattle.capi.specs.declared.answers.LaxFlag.{LaxFlag}
-use Rattle.capi.specs.declared.track_answers.LaxTrackChanged.{LaxTrackChanged}
-use Rattle.capi.specs.declared.track_answers.LaxTrackUpdated.{LaxTrackUpdated}
-use Rattle.capi.specs.declared.track_answers.LaxFilled.{LaxFilled}
-use Rattle.capi.specs.Answers.{noValue, noFound, foundWords, secondsWords, progressWords, noFlag}
-use Rattle.capi.specs.TrackAnswers.{untouched, trackChangedWords, notStepped, trackUpdatedWords, filledWords, completionWords}
+use Rattle.words.specs.Modes.{loopFrom, flagWord}
+use Rattle.words.specs.Tracks.{knownTrack, trackFrom}
+use Rattle.words.specs.Lent.{wordAt, loopAt, trackIn, clockInto}
+use Rattle.capi.specs.Answers.{Answer, accepted, refused, unknown, foundIn, secondsIn, progressIn, flagIn}
 
--- the answer for a track that was read, or the one for words that are none
-abbrev pub onTrack : {A : Type 0} → LaxTrack → (Track → A) → A → A
-onTrack w known unknown = unless (knownTrack w) unknown (known (trackFrom w))
+-- the answer for the track that is read, or the one for words that are none
+abbrev pub onTrack : {A : Type 0} → List ℕ → A → (Track → Answer A) → Answer A
+onTrack ws came answer = unless (knownTrack (trackIn ws)) (unknown came) (answer (trackFrom (trackIn ws)))
 
--- every word of the places is 0
-unfoldable pub laxTrackNew : LaxTrack
-laxTrackNew = trackWords (replicate 64 (frameWords blank)) newTrack
+-- no frames, Once: every word is 0
+abbrev pub laxTrackNew : List ℕ
+laxTrackNew = replicate 518 0
 
-abbrev pub pushed : LaxTrack → FrameRead → Track → LaxTrackChanged
-pushed w (frame.Known k) t = trackChangedWords w (pushOf t k)
-pushed w frame.Unknown t = untouched w unknownWord
+-- the mode's two words as they came; complete is cleared
+abbrev pub loopInto : List ℕ → List ℕ → List ℕ
+loopInto ws m = set (set (set ws 514 (wordAt m 0)) 515 (wordAt m 1)) 517 0
 
-unfoldable pub laxTrackPush : LaxTrack → LaxKeyframe → LaxTrackChanged
-laxTrackPush w k = onTrack w (pushed w (frameRead k)) (untouched w unknownWord)
+abbrev pub loopedBy : List ℕ → List ℕ → Outcome → Answer (List ℕ)
+loopedBy ws m outcome.Done = accepted (loopInto ws m)
+loopedBy ws m (outcome.Refused r) = refused ws r
 
-abbrev pub looped : LaxTrack → LoopRead → Track → LaxTrackChanged
-looped w (mode.Known l) t = trackChangedWords w (loopingOf t l)
-looped w mode.Unknown t = untouched w unknownWord
+abbrev pub looped : List ℕ → List ℕ → LoopRead → Track → Answer (List ℕ)
+looped ws m (mode.Known l) t = loopedBy ws m (loopingOf t l .outcome)
+looped ws m mode.Unknown t = unknown ws
 
-unfoldable pub laxTrackLooping : LaxTrack → LaxLoop → LaxTrackChanged
-laxTrackLooping w m = onTrack w (looped w (loopFrom m)) (untouched w unknownWord)
+unfoldable pub laxTrackLooping : List ℕ → List ℕ → Answer (List ℕ)
+laxTrackLooping ws m = onTrack ws ws (looped ws m (loopFrom (loopAt m 0)))
 
-unfoldable pub laxTrackValueAt : LaxTrack → Float → LaxFound
-laxTrackValueAt w secs = onTrack w (λ t. foundWords (valueAtOf t secs)) (noFound unknownWord)
+unfoldable pub laxTrackValueAt : List ℕ → Float → List ℕ → Answer (List ℕ)
+laxTrackValueAt ws secs out = onTrack ws out (λ t. foundIn out (valueAtOf t secs))
 
-unfoldable pub laxTrackValue : LaxTrack → LaxFound
-laxTrackValue w = onTrack w (λ t. foundWords (valueNow t)) (noFound unknownWord)
+unfoldable pub laxTrackValue : List ℕ → List ℕ → Answer (List ℕ)
+laxTrackValue ws out = onTrack ws out (λ t. foundIn out (valueNow t))
 
-unfoldable pub laxTrackActiveTime : LaxTrack → LaxValue
-laxTrackActiveTime w = onTrack w (λ t. secondsWords (activeTimeOf t)) (noValue unknownWord)
+unfoldable pub laxTrackActiveTime : List ℕ → Float → Answer Float
+laxTrackActiveTime ws out = onTrack ws out (λ t. secondsIn out (activeTimeOf t))
 
-unfoldable pub laxTrackDuration : LaxTrack → LaxValue
-laxTrackDuration w = onTrack w (λ t. secondsWords (durationIn t)) (noValue unknownWord)
+unfoldable pub laxTrackDuration : List ℕ → Float → Answer Float
+laxTrackDuration ws out = onTrack ws out (λ t. secondsIn out (durationIn t))
 
-unfoldable pub laxTrackPlaybackDuration : LaxTrack → LaxValue
-laxTrackPlaybackDuration w = onTrack w (λ t. secondsWords (playbackIn t)) (noValue unknownWord)
+unfoldable pub laxTrackPlaybackDuration : List ℕ → Float → Answer Float
+laxTrackPlaybackDuration ws out = onTrack ws out (λ t. secondsIn out (playbackIn t))
 
-unfoldable pub laxTrackProgress : LaxTrack → LaxValue
-laxTrackProgress w = onTrack w (λ t. progressWords (progressOf t)) (noValue unknownWord)
+unfoldable pub laxTrackProgress : List ℕ → Float → Answer Float
+laxTrackProgress ws out = onTrack ws out (λ t. progressIn out (progressOf t))
 
-unfoldable pub laxTrackIsComplete : LaxTrack → LaxFlag
-laxTrackIsComplete w = onTrack w (λ t. completionWords (completeOf t)) (noFlag unknownWord)
+unfoldable pub completionIn : ℕ → Completion → Answer ℕ
+completionIn out (completion.Complete b) = flagIn b
+completionIn out (completion.Refused r) = refused out r
 
-unfoldable pub laxTrackReset : LaxTrack → LaxTrackChanged
-laxTrackReset w = onTrack w (λ t. trackChangedWords w (resetOf t)) (untouched w unknownWord)
+unfoldable pub laxTrackIsComplete : List ℕ → ℕ → Answer ℕ
+laxTrackIsComplete ws out = onTrack ws out (λ t. completionIn out (completeOf t))
 
-unfoldable pub laxTrackSeekTo : LaxTrack → Float → LaxTrackChanged
-laxTrackSeekTo w p = onTrack w (λ t. trackChangedWords w (seekToOf t p)) (untouched w unknownWord)
+abbrev pub movedBy : List ℕ → Track → Outcome → Answer (List ℕ)
+movedBy ws t outcome.Done = accepted (clockInto ws t)
+movedBy ws t (outcome.Refused r) = refused ws r
 
-unfoldable pub laxTrackUpdate : LaxTrack → Float → LaxTrackUpdated
-laxTrackUpdate w step = onTrack w (λ t. trackUpdatedWords w (updateOf t step)) (notStepped w unknownWord)
+-- what moves in a track
+unfoldable pub movedIn : List ℕ → Changed → Answer (List ℕ)
+movedIn ws a = movedBy ws (a .track) (a .outcome)
 
--- many times at once, and the lent output afterwards
-unfoldable pub laxTrackFilled : LaxTrack → List Float → List Float → LaxFilled
-laxTrackFilled w times out =
-    onTrack w (λ t. filledWords (batchAnswer t times out)) (record { filled = 0; unsettled = 0; number = unknownWord })
+unfoldable pub laxTrackReset : List ℕ → Answer (List ℕ)
+laxTrackReset ws = onTrack ws ws (λ t. movedIn ws (resetOf t))
 
-unfoldable pub laxTrackOut : LaxTrack → List Float → List Float → List Float
-laxTrackOut w times out = onTrack w (λ t. batchOut t times out) out
+unfoldable pub laxTrackSeekTo : List ℕ → Float → Answer (List ℕ)
+laxTrackSeekTo ws p = onTrack ws ws (λ t. movedIn ws (seekToOf t p))
+
+-- the track's words, and one more: whether it is not complete and has two frames
+pub record TrackStepping : Type 0 where
+  pub words : List ℕ
+  pub running : ℕ
+
+abbrev pub steppedBy : TrackStepping → Track → Stepped → Answer TrackStepping
+steppedBy came t (stepped.Ran running) = accepted (record { words = clockInto (came .words) t; running = flagWord running })
+steppedBy came t (stepped.Refused r) = refused came r
+
+unfoldable pub steppedIn : TrackStepping → Updated → Answer TrackStepping
+steppedIn came a = steppedBy came (a .track) (a .stepped)
+
+unfoldable pub laxTrackUpdate : List ℕ → Float → ℕ → Answer TrackStepping
+laxTrackUpdate ws step running =
+    let came : TrackStepping = record { words = ws; running = running } in
+    onTrack ws came (λ t. steppedIn came (updateOf t step))
+
+-- filled is two numbers: how many values were written, and how many of them are not settled
+pub record Filling : Type 0 where
+  pub out : List Float
+  pub filled : List ℕ
+
+unfoldable pub filledIn : Filling → List Float → Filled → Answer Filling
+filledIn came out f =
+    record {
+      number = f .refusal;
+      left = record { out = out; filled = cond (eqb (f .refusal) 0) (f .filled ∷ f .unsettled ∷ []) (came .filled) };
+    }
+
+unfoldable pub laxTrackValuesAt : List ℕ → List Float → List Float → List ℕ → Answer Filling
+laxTrackValuesAt ws times out filled =
+    let came : Filling = record { out = out; filled = filled } in
+    onTrack ws came (λ t. filledIn came (batchOut t times out) (batchAnswer t times out))

@@ -1,70 +1,132 @@
--- What the exported calls of a tween answer: the tween read from its words, the library's definition, the answer's words.
+-- The calls of a tween: the tween read from its 18 words, the library's definition, and what is left in the lent words and places.
 use Prim.Native.Nat.{ℕ}
-use mathlib.Core.List.{List}
+use mathlib.Core.Bool.{Bool, cond, not, _&&_}
+use mathlib.Core.List.{List, [], _∷_, _++_}
+use lib.Dec.{eqb}
 use lib.Ieee.{Float}
+use Rattle.math.specs.Bits.{bitsOf}
 use Rattle.tween.specs.declared.record.Tween.{Tween}
+use Rattle.tween.specs.declared.answers.Snapped.{Snapped}
+use Rattle.tween.specs.declared.answers.Snapped.the-variants as snapped
+use Rattle.tween.specs.declared.answers.Changed.{Changed}
+use Rattle.tween.specs.declared.answers.Changed.the-variants as changed
+use Rattle.tween.specs.declared.answers.Updated.{Updated}
+use Rattle.tween.specs.declared.answers.Updated.the-variants as updated
+use Rattle.tween.specs.Parts.{newOf}
 use Rattle.tween.specs.Calls.{progressOf, easedProgressOf, valueOf, snapshotOf, playbackDurationOf, resetOf, seekOf, reverseOf, pauseOf, resumeOf}
 use Rattle.tween.specs.Update.{updateOf}
-use Rattle.steps.specs.Course.{runOf, answerOf, over}
+use Rattle.steps.specs.Course.{Course, runOf, answerOf, outcomeNumber, over}
 use Rattle.words.specs.declared.tweens.LaxTween.{LaxTween}
 use Rattle.words.specs.declared.tweens.TweenRead.{TweenRead}
 use Rattle.words.specs.declared.tweens.TweenRead.the-variants.{Known, Unknown}
-use Rattle.words.specs.Kinds.{unknownWord}
-use Rattle.words.specs.Tweens.{tweenFrom}
-use Rattle.capi.specs.declared.answers.LaxValue.{LaxValue}
-use Rattle.capi.specs.declared.answers.LaxFound.{LaxFound}
-use Rattle.capi.specs.declared.answers.LaxSnapshot.{LaxSnapshot}
-use Rattle.capi.specs.declared.answers.LaxChanged.{LaxChanged}
-use Rattle.capi.specs.declared.answers.LaxUpdated.{LaxUpdated}
-use Rattle.capi.specs.declared.answers.LaxRun.{LaxRun}
-use Rattle.capi.specs.Answers.{noValue, noFound, foundWords, secondsWords, progressWords, noSnapshot, snapshotWords, unchanged, changedWords, notUpdated, updatedWords, runWords}
+use Rattle.words.specs.Modes.{stateWord, flagWord}
+use Rattle.words.specs.Tweens.{tweenFrom, tweenWords}
+use Rattle.words.specs.Lent.{tweenIn, tweenInto}
+use Rattle.capi.specs.Answers.{Answer, accepted, refused, unknown, foundIn, secondsIn, progressIn}
+use Rattle.capi.specs.Easings.{easingList}
 
--- the answer for a tween that was read, or the one for words that are none
-abbrev pub onTween : {A : Type 0} → TweenRead → (Tween → A) → A → A
-onTween (Known t) known unknown = known t
-onTween Unknown known unknown = unknown
+abbrev pub byTween : {A : Type 0} → TweenRead → A → (Tween → Answer A) → Answer A
+byTween (Known t) came answer = answer t
+byTween Unknown came answer = unknown came
 
-unfoldable pub laxTweenValue : LaxTween → LaxFound
-laxTweenValue w = onTween (tweenFrom w) (λ t. foundWords (valueOf t)) (noFound unknownWord)
+-- the answer for the tween that is read, or the one for words that are none
+abbrev pub onTween : {A : Type 0} → List ℕ → A → (Tween → Answer A) → Answer A
+onTween ws came answer = byTween (tweenFrom (tweenIn ws)) came answer
 
-unfoldable pub laxTweenProgress : LaxTween → LaxValue
-laxTweenProgress w = onTween (tweenFrom w) (λ t. progressWords (progressOf t)) (noValue unknownWord)
+-- a tween as 18 words
+abbrev pub tweenList : LaxTween → List ℕ
+tweenList w =
+    bitsOf (w .start) ∷ bitsOf (w .end) ∷ bitsOf (w .duration)
+    ∷ (easingList (w .easing)
+    ++ (bitsOf (w .delay) ∷ bitsOf (w .«time_scale»)
+    ∷ w .looping .mode ∷ w .looping .passes
+    ∷ bitsOf (w .elapsed) ∷ bitsOf (w .«delay_elapsed») ∷ w .state ∷ w .«loop_count» ∷ w .«ping_pong_reverse» ∷ []))
 
-unfoldable pub laxTweenEasedProgress : LaxTween → LaxFound
-laxTweenEasedProgress w = onTween (tweenFrom w) (λ t. foundWords (easedProgressOf t)) (noFound unknownWord)
+unfoldable pub laxTweenNew : Float → Float → List ℕ
+laxTweenNew start end = tweenList (tweenWords (newOf start end))
 
-unfoldable pub laxTweenSnapshot : LaxTween → LaxSnapshot
-laxTweenSnapshot w = onTween (tweenFrom w) (λ t. snapshotWords (snapshotOf t)) (noSnapshot unknownWord)
+unfoldable pub laxTweenValue : List ℕ → List ℕ → Answer (List ℕ)
+laxTweenValue ws out = onTween ws out (λ t. foundIn out (valueOf t))
 
-unfoldable pub laxTweenPlaybackDuration : LaxTween → LaxValue
-laxTweenPlaybackDuration w = onTween (tweenFrom w) (λ t. secondsWords (playbackDurationOf t)) (noValue unknownWord)
+unfoldable pub laxTweenProgress : List ℕ → Float → Answer Float
+laxTweenProgress ws out = onTween ws out (λ t. progressIn out (progressOf t))
 
-unfoldable pub laxTweenReset : LaxTween → LaxChanged
-laxTweenReset w = onTween (tweenFrom w) (λ t. changedWords w (resetOf t)) (unchanged w unknownWord)
+unfoldable pub laxTweenEasedProgress : List ℕ → List ℕ → Answer (List ℕ)
+laxTweenEasedProgress ws out = onTween ws out (λ t. foundIn out (easedProgressOf t))
 
-unfoldable pub laxTweenSeek : LaxTween → Float → LaxChanged
-laxTweenSeek w p = onTween (tweenFrom w) (λ t. changedWords w (seekOf t p)) (unchanged w unknownWord)
+-- five words: elapsed, delay_elapsed, state, loop_count, ping_pong_reverse
+unfoldable pub snapshotIn : List ℕ → Snapped → Answer (List ℕ)
+snapshotIn out (snapped.Snapshot s) =
+    accepted (bitsOf (s .elapsed) ∷ bitsOf (s .«delay_elapsed») ∷ stateWord (s .state) ∷ s .«loop_count» ∷ flagWord (s .«ping_pong_reverse») ∷ [])
+snapshotIn out (snapped.Refused r) = refused out r
 
-unfoldable pub laxTweenReverse : LaxTween → LaxChanged
-laxTweenReverse w = onTween (tweenFrom w) (λ t. changedWords w (reverseOf t)) (unchanged w unknownWord)
+unfoldable pub laxTweenSnapshot : List ℕ → List ℕ → Answer (List ℕ)
+laxTweenSnapshot ws out = onTween ws out (λ t. snapshotIn out (snapshotOf t))
 
-unfoldable pub laxTweenPause : LaxTween → LaxChanged
-laxTweenPause w = onTween (tweenFrom w) (λ t. changedWords w (pauseOf t)) (unchanged w unknownWord)
+unfoldable pub laxTweenPlaybackDuration : List ℕ → Float → Answer Float
+laxTweenPlaybackDuration ws out = onTween ws out (λ t. secondsIn out (playbackDurationOf t))
 
-unfoldable pub laxTweenResume : LaxTween → LaxChanged
-laxTweenResume w = onTween (tweenFrom w) (λ t. changedWords w (resumeOf t)) (unchanged w unknownWord)
+unfoldable pub changedIn : List ℕ → Changed → Answer (List ℕ)
+changedIn ws (changed.Done u) = accepted (tweenInto ws u)
+changedIn ws (changed.Refused u r) = refused ws r
 
-unfoldable pub laxTweenUpdate : LaxTween → Float → LaxUpdated
-laxTweenUpdate w step = onTween (tweenFrom w) (λ t. updatedWords w (updateOf t step)) (notUpdated w unknownWord)
+unfoldable pub laxTweenReset : List ℕ → Answer (List ℕ)
+laxTweenReset ws = onTween ws ws (λ t. changedIn ws (resetOf t))
 
--- a run of steps, and its two lent lists afterwards
-unfoldable pub laxTweenRun : LaxTween → List Float → List Float → List ℕ → LaxRun
-laxTweenRun w steps values folds =
-    onTween (tweenFrom w) (λ t. runWords w (answerOf (runOf t steps values folds)))
-    (record { done = 0; unsettled = 0; number = unknownWord; tween = w })
+unfoldable pub laxTweenSeek : List ℕ → Float → Answer (List ℕ)
+laxTweenSeek ws p = onTween ws ws (λ t. changedIn ws (seekOf t p))
 
-unfoldable pub laxRunValues : LaxTween → List Float → List Float → List ℕ → List Float
-laxRunValues w steps values folds = onTween (tweenFrom w) (λ t. over (runOf t steps values folds .values) values) values
+unfoldable pub laxTweenReverse : List ℕ → Answer (List ℕ)
+laxTweenReverse ws = onTween ws ws (λ t. changedIn ws (reverseOf t))
 
-unfoldable pub laxRunFolds : LaxTween → List Float → List Float → List ℕ → List ℕ
-laxRunFolds w steps values folds = onTween (tweenFrom w) (λ t. over (runOf t steps values folds .folds) folds) folds
+unfoldable pub laxTweenPause : List ℕ → Answer (List ℕ)
+laxTweenPause ws = onTween ws ws (λ t. changedIn ws (pauseOf t))
+
+unfoldable pub laxTweenResume : List ℕ → Answer (List ℕ)
+laxTweenResume ws = onTween ws ws (λ t. changedIn ws (resumeOf t))
+
+-- the tween's words, and two more: the folds, and whether it is not completed
+pub record Stepping : Type 0 where
+  pub words : List ℕ
+  pub out : List ℕ
+
+unfoldable pub updatedIn : Stepping → Updated → Answer Stepping
+updatedIn came (updated.Ran u k running) = accepted (record { words = tweenInto (came .words) u; out = k ∷ flagWord running ∷ [] })
+updatedIn came (updated.Refused u r) = refused came r
+
+unfoldable pub laxTweenUpdate : List ℕ → Float → List ℕ → Answer Stepping
+laxTweenUpdate ws step out =
+    let came : Stepping = record { words = ws; out = out } in
+    onTween ws came (λ t. updatedIn came (updateOf t step))
+
+-- out: how many steps were taken, and how many of the values are not settled
+pub record Running : Type 0 where
+  pub words : List ℕ
+  pub values : List Float
+  pub folds : List ℕ
+  pub out : List ℕ
+
+-- refused before anything was done: nothing is left
+abbrev pub idle : ℕ → ℕ → Bool
+idle done number = eqb done 0 && not (eqb number 0)
+
+-- a run that stops at a step leaves what the steps before it made
+unfoldable pub ranIn : Running → Course → Answer Running
+ranIn came course =
+    let run = answerOf course in
+    let number = outcomeNumber (run .outcome) in
+    record {
+      number = number;
+      left =
+        record {
+          words = cond (eqb (run .done) 0) (came .words) (tweenInto (came .words) (run .tween));
+          values = over (course .values) (came .values);
+          folds = over (course .folds) (came .folds);
+          out = cond (idle (run .done) number) (came .out) (run .done ∷ run .unsettled ∷ []);
+        };
+    }
+
+unfoldable pub laxTweenRun : List ℕ → List Float → List Float → List ℕ → List ℕ → Answer Running
+laxTweenRun ws steps values folds out =
+    let came : Running = record { words = ws; values = values; folds = folds; out = out } in
+    onTween ws came (λ t. ranIn came (runOf t steps values folds))

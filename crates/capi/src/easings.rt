@@ -1,70 +1,64 @@
-// The calls of an easing.
-ghost use mathlib.Core.Path.{_≡_};
-ghost use Rattle.capi.specs.Easings.{laxEasingApply, laxEasingEq, laxEasingIsSupplied, laxEasingNamed};
-use crate::answers::LaxEasingAnswer;
-use crate::answers::LaxFlag;
-use crate::answers::LaxFound;
-use crate::answers::equality_words;
-use crate::answers::flag_words;
-use crate::answers::found_words;
-use crate::answers::no_flag;
-use crate::answers::no_found;
+// The calls of an easing, lent as six words.
+use crate::answers::UNKNOWN_WORD;
+use crate::answers::put_flag;
+use crate::answers::put_found;
 use easing::Easing;
+use easing::Equality;
 use units::Progress;
 use words::EasingRead;
-use words::LaxEasing;
-use words::UNKNOWN_WORD;
+use words::easing_in;
 use words::easing_of;
 use words::easing_words;
 
 #[no_mangle]
-pub extern "C" fn lax_easing_apply(e: LaxEasing, t: f32) -> LaxFound
-    ensures { λ r. ⌜ r ≡ laxEasingApply e t ⌝ }
+pub extern "C" fn lax_easing_apply(e: &[u32; 6], t: f32, out: &mut [u32; 4]) -> u32
 {
-    match easing_of(e) {
-        EasingRead::Known(easing) => found_words(easing.apply(Progress(t))),
-        EasingRead::Unknown => no_found(UNKNOWN_WORD),
+    match easing_of(easing_in(e)) {
+        EasingRead::Known(easing) => put_found(easing.apply(Progress(t)), out),
+        EasingRead::Unknown => UNKNOWN_WORD,
     }
 }
 
 #[no_mangle]
-pub extern "C" fn lax_easing_eq(x: LaxEasing, y: LaxEasing) -> LaxFlag
-    ensures { λ r. ⌜ r ≡ laxEasingEq x y ⌝ }
+pub extern "C" fn lax_easing_eq(x: &[u32; 6], y: &[u32; 6], out: &mut u32) -> u32
 {
-    let EasingRead::Known(left) = easing_of(x) else {
-        return no_flag(UNKNOWN_WORD);
+    let EasingRead::Known(left) = easing_of(easing_in(x)) else {
+        return UNKNOWN_WORD;
     };
-    let EasingRead::Known(right) = easing_of(y) else {
-        return no_flag(UNKNOWN_WORD);
+    let EasingRead::Known(right) = easing_of(easing_in(y)) else {
+        return UNKNOWN_WORD;
     };
-    equality_words(left.eq(right))
+    match left.eq(right) {
+        Equality::Equal(b) => put_flag(b, out),
+        Equality::Refused(refusal) => refusal.number(),
+    }
 }
 
 #[no_mangle]
-pub extern "C" fn lax_easing_is_supplied(e: LaxEasing) -> LaxFlag
-    ensures { λ r. ⌜ r ≡ laxEasingIsSupplied e ⌝ }
+pub extern "C" fn lax_easing_is_supplied(e: &[u32; 6], out: &mut u32) -> u32
 {
-    match easing_of(e) {
-        EasingRead::Known(easing) => flag_words(easing.is_supplied()),
-        EasingRead::Unknown => no_flag(UNKNOWN_WORD),
+    match easing_of(easing_in(e)) {
+        EasingRead::Known(easing) => put_flag(easing.is_supplied(), out),
+        EasingRead::Unknown => UNKNOWN_WORD,
     }
 }
 
 // The easing at a place of all_named, from 0 to 37, with the source's parameters.
 #[no_mangle]
-pub extern "C" fn lax_easing_named(place: u32) -> LaxEasingAnswer
-    ensures { λ r. ⌜ r ≡ laxEasingNamed place ⌝ }
+pub extern "C" fn lax_easing_named(place: u32, out: &mut [u32; 6]) -> u32
 {
     if place < 38 {
         let named = Easing::all_named();
-        let e = named[place as usize];
-        return LaxEasingAnswer {
-            number: 0,
-            easing: easing_words(e),
-        };
+        let e = easing_words(named[place as usize]);
+        *out = [
+            e.kind,
+            math::bits(e.a),
+            math::bits(e.b),
+            math::bits(e.c),
+            math::bits(e.d),
+            e.count,
+        ];
+        return 0;
     }
-    LaxEasingAnswer {
-        number: UNKNOWN_WORD,
-        easing: easing_words(Easing::Linear),
-    }
+    UNKNOWN_WORD
 }

@@ -1,108 +1,108 @@
-// What the exported functions of a track answer. Where number is not 0 the track is the one that came.
-ghost use mathlib.Core.Path.{_≡_};
-ghost use Rattle.capi.specs.TrackAnswers.{untouched, trackChangedWords, notStepped, trackUpdatedWords, filledWords, completionWords};
-use crate::answers::LaxFlag;
-use crate::answers::flag_words;
-use crate::answers::no_flag;
+// A track read from its words, and written back.
 use keyframe::Changed;
-use keyframe::Completion;
-use keyframe::Filled;
 use keyframe::Outcome;
-use keyframe::Stepped;
-use keyframe::Updated;
+use keyframe::Track;
+use words::LaxEasing;
+use words::LaxKeyframe;
+use words::LaxLoop;
 use words::LaxTrack;
 use words::flag_word;
+use words::frame_words;
 use words::track_words;
 
-#[repr(C)]
-pub struct LaxTrackChanged {
-    pub number: u32,
-    pub track: LaxTrack,
-}
-
-#[repr(C)]
-pub struct LaxTrackUpdated {
-    pub number: u32,
-    pub running: u32,
-    pub track: LaxTrack,
-}
-
-// filled is how many places at the front of the lent output were written; unsettled, how many of
-// them hold a value that was not settled.
-#[repr(C)]
-pub struct LaxFilled {
-    pub filled: usize,
-    pub unsettled: usize,
-    pub number: u32,
-}
-
-pub fn untouched(w: LaxTrack, number: u32) -> LaxTrackChanged
-    ensures { λ r. ⌜ r ≡ untouched w number ⌝ }
+fn frame_at(w: &[u32; 518], i: usize) -> LaxKeyframe
 {
-    LaxTrackChanged { number, track: w }
+    if i < 64 {
+        return LaxKeyframe::new(
+            math::of_bits(w[8 * i]),
+            math::of_bits(w[8 * i + 1]),
+            LaxEasing {
+                kind: w[8 * i + 2],
+                a: math::of_bits(w[8 * i + 3]),
+                b: math::of_bits(w[8 * i + 4]),
+                c: math::of_bits(w[8 * i + 5]),
+                d: math::of_bits(w[8 * i + 6]),
+                count: w[8 * i + 7],
+            },
+        );
+    }
+    frame_words(frames::blank())
 }
 
-// w is the track that came.
-pub fn track_changed_words(w: LaxTrack, a: Changed) -> LaxTrackChanged
-    ensures { λ r. ⌜ r ≡ trackChangedWords w a ⌝ }
+fn frames_at(w: &[u32; 518]) -> [LaxKeyframe; 64]
 {
+    let mut frames = [frame_words(frames::blank()); 64];
+    let mut i: usize = 0;
+    while i < 64 {
+        frames[i] = frame_at(w, i);
+        i += 1;
+    }
+    frames
+}
+
+pub fn track_in(w: &[u32; 518]) -> LaxTrack
+{
+    let frames = frames_at(w);
+    LaxTrack {
+        frames,
+        count: w[512],
+        elapsed: math::of_bits(w[513]),
+        looping: LaxLoop {
+            mode: w[514],
+            passes: w[515],
+        },
+        loop_count: w[516],
+        complete: w[517],
+    }
+}
+
+fn put_frame(w: &mut [u32; 518], i: usize, k: LaxKeyframe)
+{
+    if i < 64 {
+        let e = k.easing;
+        w[8 * i] = math::bits(k.time);
+        w[8 * i + 1] = math::bits(k.value);
+        w[8 * i + 2] = e.kind;
+        w[8 * i + 3] = math::bits(e.a);
+        w[8 * i + 4] = math::bits(e.b);
+        w[8 * i + 5] = math::bits(e.c);
+        w[8 * i + 6] = math::bits(e.d);
+        w[8 * i + 7] = e.count;
+    }
+}
+
+fn put_frames(w: &mut [u32; 518], frames: [LaxKeyframe; 64])
+{
+    let mut i: usize = 0;
+    while i < 64 {
+        put_frame(w, i, frames[i]);
+        i += 1;
+    }
+}
+
+pub fn put_whole(track: Track, w: &mut [u32; 518])
+{
+    let t = track_words(frames_at(w), track);
+    let frames = t.frames;
+    put_frames(w, frames);
+    let looping = t.looping;
+    w[512] = t.count;
+    w[513] = math::bits(t.elapsed);
+    w[514] = looping.mode;
+    w[515] = looping.passes;
+    w[516] = t.loop_count;
+    w[517] = t.complete;
+}
+
+pub fn put_track(a: Changed, w: &mut [u32; 518]) -> u32
+{
+    let track = a.track;
     let outcome = a.outcome;
     match outcome {
         Outcome::Done => {
-            let came = w.frames;
-            let track = a.track;
-            LaxTrackChanged {
-                number: 0,
-                track: track_words(came, track),
-            }
+            put_whole(track, w);
+            0
         }
-        Outcome::Refused(refusal) => untouched(w, refusal.number()),
-    }
-}
-
-pub fn not_stepped(w: LaxTrack, number: u32) -> LaxTrackUpdated
-    ensures { λ r. ⌜ r ≡ notStepped w number ⌝ }
-{
-    LaxTrackUpdated {
-        number,
-        running: 0,
-        track: w,
-    }
-}
-
-pub fn track_updated_words(w: LaxTrack, a: Updated) -> LaxTrackUpdated
-    ensures { λ r. ⌜ r ≡ trackUpdatedWords w a ⌝ }
-{
-    let stepped = a.stepped;
-    match stepped {
-        Stepped::Ran { running } => {
-            let came = w.frames;
-            let track = a.track;
-            LaxTrackUpdated {
-                number: 0,
-                running: flag_word(running),
-                track: track_words(came, track),
-            }
-        }
-        Stepped::Refused(refusal) => not_stepped(w, refusal.number()),
-    }
-}
-
-pub fn filled_words(f: Filled) -> LaxFilled
-    ensures { λ r. ⌜ r ≡ filledWords f ⌝ }
-{
-    LaxFilled {
-        filled: f.filled,
-        unsettled: f.unsettled,
-        number: f.refusal,
-    }
-}
-
-pub fn completion_words(a: Completion) -> LaxFlag
-    ensures { λ r. ⌜ r ≡ completionWords a ⌝ }
-{
-    match a {
-        Completion::Complete(b) => flag_words(b),
-        Completion::Refused(refusal) => no_flag(refusal.number()),
+        Outcome::Refused(refusal) => refusal.number(),
     }
 }

@@ -1,62 +1,52 @@
-// The calls of a track.
-ghost use mathlib.Core.Path.{_≡_};
-ghost use Rattle.capi.specs.Tracks.{laxTrackNew, laxTrackPush, laxTrackLooping, laxTrackValueAt, laxTrackValue, laxTrackFilled, laxTrackOut, laxTrackActiveTime, laxTrackDuration, laxTrackPlaybackDuration, laxTrackProgress, laxTrackIsComplete, laxTrackReset, laxTrackSeekTo, laxTrackUpdate};
-ghost use Rattle.words.specs.Kinds.{easingWords};
-ghost use Rattle.words.specs.Tracks.{laxFrame};
-ghost use Rattle.easing.specs.declared.kinds.Easing.the-variants.{Linear};
-use crate::answers::LaxFlag;
-use crate::answers::LaxFound;
-use crate::answers::LaxValue;
-use crate::answers::found_words;
-use crate::answers::no_flag;
-use crate::answers::no_found;
-use crate::answers::no_value;
-use crate::answers::progress_words;
-use crate::answers::seconds_words;
-use crate::track_answers::LaxFilled;
-use crate::track_answers::LaxTrackChanged;
-use crate::track_answers::LaxTrackUpdated;
-use crate::track_answers::completion_words;
-use crate::track_answers::filled_words;
-use crate::track_answers::not_stepped;
-use crate::track_answers::track_changed_words;
-use crate::track_answers::track_updated_words;
-use crate::track_answers::untouched;
-use easing::Eased;
+// The calls of a track, lent as 518 words.
+use crate::answers::UNKNOWN_WORD;
+use crate::answers::put_flag;
+use crate::answers::put_found;
+use crate::answers::put_progress;
+use crate::answers::put_seconds;
+use crate::track_answers::put_track;
+use crate::track_answers::put_whole;
+use crate::track_answers::track_in;
 use easing::Easing;
-use keyframe::Track;
+use keyframe::Completion;
+use keyframe::Stepped;
 use units::Progress;
 use units::Seconds;
 use words::FrameRead;
-use words::LaxEasing;
 use words::LaxKeyframe;
-use words::LaxLoop;
-use words::LaxTrack;
 use words::LoopRead;
-use words::Quick;
-use words::UNKNOWN_WORD;
+use words::easing_in;
 use words::easing_words;
-use words::frame_words;
+use words::frame_in;
 use words::is_known;
+use words::loop_in;
 use words::loop_of;
-use words::quick_value_at;
 use words::read_frame;
 use words::track_of;
-use words::track_words;
 
 #[no_mangle]
-pub extern "C" fn lax_track_new() -> LaxTrack
-    ensures { λ r. ⌜ r ≡ laxTrackNew ⌝ }
+pub extern "C" fn lax_track_new(w: &mut [u32; 518]) -> u32
 {
-    let places = [frame_words(frames::blank()); 64];
-    track_words(places, Track::new())
+    *w = [0u32; 518];
+    0
+}
+
+fn push_words(w: &mut [u32; 518], k: LaxKeyframe) -> u32
+{
+    let t = track_in(w);
+    if is_known(t) {
+        let FrameRead::Known(frame) = read_frame(k) else {
+            return UNKNOWN_WORD;
+        };
+        return put_track(track_of(t).push_frame(frame), w);
+    }
+    UNKNOWN_WORD
 }
 
 #[no_mangle]
-pub extern "C" fn lax_track_push(w: LaxTrack, time: f32, value: f32) -> LaxTrackChanged
-    ensures { λ r. ⌜ r ≡ laxTrackPush w (laxFrame time value (easingWords Linear)) ⌝ }
+pub extern "C" fn lax_track_push(w: &mut [u32; 518], time: f32, value: f32) -> u32
 {
-    lax_track_push_frame(
+    push_words(
         w,
         LaxKeyframe::new(time, value, easing_words(Easing::Linear)),
     )
@@ -64,157 +54,164 @@ pub extern "C" fn lax_track_push(w: LaxTrack, time: f32, value: f32) -> LaxTrack
 
 #[no_mangle]
 pub extern "C" fn lax_track_push_eased(
-    w: LaxTrack,
+    w: &mut [u32; 518],
     time: f32,
     value: f32,
-    e: LaxEasing,
-) -> LaxTrackChanged
-    ensures { λ r. ⌜ r ≡ laxTrackPush w (laxFrame time value e) ⌝ }
+    e: &[u32; 6],
+) -> u32
 {
-    lax_track_push_frame(w, LaxKeyframe::new(time, value, e))
+    push_words(w, LaxKeyframe::new(time, value, easing_in(e)))
 }
 
 #[no_mangle]
-pub extern "C" fn lax_track_push_frame(w: LaxTrack, k: LaxKeyframe) -> LaxTrackChanged
-    ensures { λ r. ⌜ r ≡ laxTrackPush w k ⌝ }
+pub extern "C" fn lax_track_push_frame(w: &mut [u32; 518], k: &[u32; 8]) -> u32
 {
-    if is_known(w) {
-        let FrameRead::Known(frame) = read_frame(k) else {
-            return untouched(w, UNKNOWN_WORD);
+    push_words(w, frame_in(k))
+}
+
+#[no_mangle]
+pub extern "C" fn lax_track_looping(w: &mut [u32; 518], mode: &[u32; 2]) -> u32
+{
+    let t = track_in(w);
+    if is_known(t) {
+        let LoopRead::Known(looping) = loop_of(loop_in(mode)) else {
+            return UNKNOWN_WORD;
         };
-        return track_changed_words(w, track_of(w).push_frame(frame));
+        return put_track(track_of(t).looping(looping), w);
     }
-    untouched(w, UNKNOWN_WORD)
+    UNKNOWN_WORD
 }
 
 #[no_mangle]
-pub extern "C" fn lax_track_looping(w: LaxTrack, mode: LaxLoop) -> LaxTrackChanged
-    ensures { λ r. ⌜ r ≡ laxTrackLooping w mode ⌝ }
+pub extern "C" fn lax_track_value_at(w: &[u32; 518], secs: f32, out: &mut [u32; 4]) -> u32
 {
-    if is_known(w) {
-        let LoopRead::Known(looping) = loop_of(mode) else {
-            return untouched(w, UNKNOWN_WORD);
+    let t = track_in(w);
+    if is_known(t) {
+        return put_found(track_of(t).value_at(Seconds(secs)), out);
+    }
+    UNKNOWN_WORD
+}
+
+#[no_mangle]
+pub extern "C" fn lax_track_value(w: &[u32; 518], out: &mut [u32; 4]) -> u32
+{
+    let t = track_in(w);
+    if is_known(t) {
+        return put_found(track_of(t).value(), out);
+    }
+    UNKNOWN_WORD
+}
+
+#[no_mangle]
+pub extern "C" fn lax_track_active_time(w: &[u32; 518], out: &mut f32) -> u32
+{
+    let t = track_in(w);
+    if is_known(t) {
+        return put_seconds(track_of(t).active_time(), out);
+    }
+    UNKNOWN_WORD
+}
+
+#[no_mangle]
+pub extern "C" fn lax_track_duration(w: &[u32; 518], out: &mut f32) -> u32
+{
+    let t = track_in(w);
+    if is_known(t) {
+        return put_seconds(track_of(t).duration(), out);
+    }
+    UNKNOWN_WORD
+}
+
+#[no_mangle]
+pub extern "C" fn lax_track_playback_duration(w: &[u32; 518], out: &mut f32) -> u32
+{
+    let t = track_in(w);
+    if is_known(t) {
+        return put_seconds(track_of(t).playback_duration(), out);
+    }
+    UNKNOWN_WORD
+}
+
+#[no_mangle]
+pub extern "C" fn lax_track_progress(w: &[u32; 518], out: &mut f32) -> u32
+{
+    let t = track_in(w);
+    if is_known(t) {
+        return put_progress(track_of(t).progress(), out);
+    }
+    UNKNOWN_WORD
+}
+
+#[no_mangle]
+pub extern "C" fn lax_track_is_complete(w: &[u32; 518], out: &mut u32) -> u32
+{
+    let t = track_in(w);
+    if is_known(t) {
+        return match track_of(t).is_complete() {
+            Completion::Complete(b) => put_flag(b, out),
+            Completion::Refused(refusal) => refusal.number(),
         };
-        return track_changed_words(w, track_of(w).looping(looping));
     }
-    untouched(w, UNKNOWN_WORD)
+    UNKNOWN_WORD
 }
 
 #[no_mangle]
-pub extern "C" fn lax_track_value_at(w: LaxTrack, secs: f32) -> LaxFound
-    ensures { λ r. ⌜ r ≡ laxTrackValueAt w secs ⌝ }
+pub extern "C" fn lax_track_reset(w: &mut [u32; 518]) -> u32
 {
-    if let Quick::Value(found) = quick_value_at(w, secs) {
-        return found_words(Eased::Value(found));
+    let t = track_in(w);
+    if is_known(t) {
+        return put_track(track_of(t).reset(), w);
     }
-    if is_known(w) {
-        return found_words(track_of(w).value_at(Seconds(secs)));
-    }
-    no_found(UNKNOWN_WORD)
+    UNKNOWN_WORD
 }
 
 #[no_mangle]
-pub extern "C" fn lax_track_value(w: LaxTrack) -> LaxFound
-    ensures { λ r. ⌜ r ≡ laxTrackValue w ⌝ }
+pub extern "C" fn lax_track_seek_to(w: &mut [u32; 518], p: f32) -> u32
 {
-    if is_known(w) {
-        return found_words(track_of(w).value());
+    let t = track_in(w);
+    if is_known(t) {
+        return put_track(track_of(t).seek_to(Progress(p)), w);
     }
-    no_found(UNKNOWN_WORD)
+    UNKNOWN_WORD
 }
 
+// running: 1 where the track is not complete, and has two frames or more.
 #[no_mangle]
-pub extern "C" fn lax_track_active_time(w: LaxTrack) -> LaxValue
-    ensures { λ r. ⌜ r ≡ laxTrackActiveTime w ⌝ }
+pub extern "C" fn lax_track_update(w: &mut [u32; 518], step: f32, out: &mut u32) -> u32
 {
-    if is_known(w) {
-        return seconds_words(track_of(w).active_time());
+    let t = track_in(w);
+    if is_known(t) {
+        let a = track_of(t).update(step);
+        let track = a.track;
+        let stepped = a.stepped;
+        return match stepped {
+            Stepped::Ran { running } => {
+                put_whole(track, w);
+                put_flag(running, out)
+            }
+            Stepped::Refused(refusal) => refusal.number(),
+        };
     }
-    no_value(UNKNOWN_WORD)
+    UNKNOWN_WORD
 }
 
+// The value at each time goes into the front of out. filled: how many were written, and how many of them
+// are not settled.
 #[no_mangle]
-pub extern "C" fn lax_track_duration(w: LaxTrack) -> LaxValue
-    ensures { λ r. ⌜ r ≡ laxTrackDuration w ⌝ }
+pub extern "C" fn lax_track_values_at(
+    w: &[u32; 518],
+    times: &[f32],
+    out: &mut [f32],
+    filled: &mut [usize; 2],
+) -> u32
 {
-    if is_known(w) {
-        return seconds_words(track_of(w).duration());
+    let t = track_in(w);
+    if is_known(t) {
+        let a = track_of(t).fill_values(times, out);
+        if a.refusal == 0 {
+            *filled = [a.filled, a.unsettled];
+        }
+        return a.refusal;
     }
-    no_value(UNKNOWN_WORD)
-}
-
-#[no_mangle]
-pub extern "C" fn lax_track_playback_duration(w: LaxTrack) -> LaxValue
-    ensures { λ r. ⌜ r ≡ laxTrackPlaybackDuration w ⌝ }
-{
-    if is_known(w) {
-        return seconds_words(track_of(w).playback_duration());
-    }
-    no_value(UNKNOWN_WORD)
-}
-
-#[no_mangle]
-pub extern "C" fn lax_track_progress(w: LaxTrack) -> LaxValue
-    ensures { λ r. ⌜ r ≡ laxTrackProgress w ⌝ }
-{
-    if is_known(w) {
-        return progress_words(track_of(w).progress());
-    }
-    no_value(UNKNOWN_WORD)
-}
-
-#[no_mangle]
-pub extern "C" fn lax_track_is_complete(w: LaxTrack) -> LaxFlag
-    ensures { λ r. ⌜ r ≡ laxTrackIsComplete w ⌝ }
-{
-    if is_known(w) {
-        return completion_words(track_of(w).is_complete());
-    }
-    no_flag(UNKNOWN_WORD)
-}
-
-#[no_mangle]
-pub extern "C" fn lax_track_reset(w: LaxTrack) -> LaxTrackChanged
-    ensures { λ r. ⌜ r ≡ laxTrackReset w ⌝ }
-{
-    if is_known(w) {
-        return track_changed_words(w, track_of(w).reset());
-    }
-    untouched(w, UNKNOWN_WORD)
-}
-
-#[no_mangle]
-pub extern "C" fn lax_track_seek_to(w: LaxTrack, p: f32) -> LaxTrackChanged
-    ensures { λ r. ⌜ r ≡ laxTrackSeekTo w p ⌝ }
-{
-    if is_known(w) {
-        return track_changed_words(w, track_of(w).seek_to(Progress(p)));
-    }
-    untouched(w, UNKNOWN_WORD)
-}
-
-#[no_mangle]
-pub extern "C" fn lax_track_update(w: LaxTrack, step: f32) -> LaxTrackUpdated
-    ensures { λ r. ⌜ r ≡ laxTrackUpdate w step ⌝ }
-{
-    if is_known(w) {
-        return track_updated_words(w, track_of(w).update(step));
-    }
-    not_stepped(w, UNKNOWN_WORD)
-}
-
-// The value at each time goes into the front of out.
-#[no_mangle]
-pub extern "C" fn lax_track_values_at(w: LaxTrack, times: &[f32], out: &mut [f32]) -> LaxFilled
-    ensures answer { λ r. ⌜ r ≡ laxTrackFilled w (now (times .entry)) (now (out .entry)) ⌝ }
-    ensures output { λ _. ⌜ now (out .exit) ≡ laxTrackOut w (now (times .entry)) (now (out .entry)) ⌝ }
-{
-    if is_known(w) {
-        return filled_words(track_of(w).fill_values(times, out));
-    }
-    LaxFilled {
-        filled: 0,
-        unsettled: 0,
-        number: UNKNOWN_WORD,
-    }
+    UNKNOWN_WORD
 }

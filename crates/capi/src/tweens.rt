@@ -1,174 +1,189 @@
-// The calls of a tween.
-ghost use mathlib.Core.Path.{_≡_};
-ghost use Rattle.words.specs.Tweens.{tweenWords};
-ghost use Rattle.tween.specs.Parts.{newOf};
-ghost use Rattle.capi.specs.Tweens.{laxTweenValue, laxTweenProgress, laxTweenEasedProgress, laxTweenSnapshot, laxTweenPlaybackDuration, laxTweenReset, laxTweenSeek, laxTweenReverse, laxTweenPause, laxTweenResume, laxTweenUpdate, laxTweenRun, laxRunValues, laxRunFolds};
-use crate::answers::LaxChanged;
-use crate::answers::LaxFound;
-use crate::answers::LaxRun;
-use crate::answers::LaxSnapshot;
-use crate::answers::LaxUpdated;
-use crate::answers::LaxValue;
-use crate::answers::changed_words;
-use crate::answers::found_words;
-use crate::answers::no_found;
-use crate::answers::no_snapshot;
-use crate::answers::no_value;
-use crate::answers::not_updated;
-use crate::answers::progress_words;
-use crate::answers::run_words;
-use crate::answers::seconds_words;
-use crate::answers::snapshot_words;
-use crate::answers::unchanged;
-use crate::answers::updated_words;
+// The calls of a tween, lent as 18 words.
+use crate::answers::UNKNOWN_WORD;
+use crate::answers::outcome_number;
+use crate::answers::put_found;
+use crate::answers::put_progress;
+use crate::answers::put_seconds;
+use crate::answers::put_snapshot;
+use crate::answers::put_tween;
 use steps::run_steps;
 use tween::Tween;
+use tween::Updated;
 use units::Progress;
-use words::LaxTween;
 use words::TweenRead;
-use words::UNKNOWN_WORD;
+use words::flag_word;
+use words::store_tween;
+use words::tween_in;
 use words::tween_of;
 use words::tween_words;
 
 #[no_mangle]
-pub extern "C" fn lax_tween_new(start: f32, end: f32) -> LaxTween
-    ensures { λ r. ⌜ r ≡ tweenWords (newOf start end) ⌝ }
+pub extern "C" fn lax_tween_new(w: &mut [u32; 18], start: f32, end: f32) -> u32
 {
-    tween_words(Tween::new(start, end))
+    let t = tween_words(Tween::new(start, end));
+    let e = t.easing;
+    let mode = t.looping;
+    *w = [
+        math::bits(t.start),
+        math::bits(t.end),
+        math::bits(t.duration),
+        e.kind,
+        math::bits(e.a),
+        math::bits(e.b),
+        math::bits(e.c),
+        math::bits(e.d),
+        e.count,
+        math::bits(t.delay),
+        math::bits(t.time_scale),
+        mode.mode,
+        mode.passes,
+        math::bits(t.elapsed),
+        math::bits(t.delay_elapsed),
+        t.state,
+        t.loop_count,
+        t.ping_pong_reverse,
+    ];
+    0
 }
 
 #[no_mangle]
-pub extern "C" fn lax_tween_value(w: LaxTween) -> LaxFound
-    ensures { λ r. ⌜ r ≡ laxTweenValue w ⌝ }
+pub extern "C" fn lax_tween_value(w: &[u32; 18], out: &mut [u32; 4]) -> u32
 {
-    match tween_of(w) {
-        TweenRead::Known(t) => found_words(t.value()),
-        TweenRead::Unknown => no_found(UNKNOWN_WORD),
+    match tween_of(tween_in(w)) {
+        TweenRead::Known(t) => put_found(t.value(), out),
+        TweenRead::Unknown => UNKNOWN_WORD,
     }
 }
 
 #[no_mangle]
-pub extern "C" fn lax_tween_progress(w: LaxTween) -> LaxValue
-    ensures { λ r. ⌜ r ≡ laxTweenProgress w ⌝ }
+pub extern "C" fn lax_tween_progress(w: &[u32; 18], out: &mut f32) -> u32
 {
-    match tween_of(w) {
-        TweenRead::Known(t) => progress_words(t.progress()),
-        TweenRead::Unknown => no_value(UNKNOWN_WORD),
+    match tween_of(tween_in(w)) {
+        TweenRead::Known(t) => put_progress(t.progress(), out),
+        TweenRead::Unknown => UNKNOWN_WORD,
     }
 }
 
 #[no_mangle]
-pub extern "C" fn lax_tween_eased_progress(w: LaxTween) -> LaxFound
-    ensures { λ r. ⌜ r ≡ laxTweenEasedProgress w ⌝ }
+pub extern "C" fn lax_tween_eased_progress(w: &[u32; 18], out: &mut [u32; 4]) -> u32
 {
-    match tween_of(w) {
-        TweenRead::Known(t) => found_words(t.eased_progress()),
-        TweenRead::Unknown => no_found(UNKNOWN_WORD),
+    match tween_of(tween_in(w)) {
+        TweenRead::Known(t) => put_found(t.eased_progress(), out),
+        TweenRead::Unknown => UNKNOWN_WORD,
     }
 }
 
 #[no_mangle]
-pub extern "C" fn lax_tween_snapshot(w: LaxTween) -> LaxSnapshot
-    ensures { λ r. ⌜ r ≡ laxTweenSnapshot w ⌝ }
+pub extern "C" fn lax_tween_snapshot(w: &[u32; 18], out: &mut [u32; 5]) -> u32
 {
-    match tween_of(w) {
-        TweenRead::Known(t) => snapshot_words(t.snapshot()),
-        TweenRead::Unknown => no_snapshot(UNKNOWN_WORD),
+    match tween_of(tween_in(w)) {
+        TweenRead::Known(t) => put_snapshot(t.snapshot(), out),
+        TweenRead::Unknown => UNKNOWN_WORD,
     }
 }
 
 #[no_mangle]
-pub extern "C" fn lax_tween_playback_duration(w: LaxTween) -> LaxValue
-    ensures { λ r. ⌜ r ≡ laxTweenPlaybackDuration w ⌝ }
+pub extern "C" fn lax_tween_playback_duration(w: &[u32; 18], out: &mut f32) -> u32
 {
-    match tween_of(w) {
-        TweenRead::Known(t) => seconds_words(t.playback_duration()),
-        TweenRead::Unknown => no_value(UNKNOWN_WORD),
+    match tween_of(tween_in(w)) {
+        TweenRead::Known(t) => put_seconds(t.playback_duration(), out),
+        TweenRead::Unknown => UNKNOWN_WORD,
     }
 }
 
 #[no_mangle]
-pub extern "C" fn lax_tween_reset(w: LaxTween) -> LaxChanged
-    ensures { λ r. ⌜ r ≡ laxTweenReset w ⌝ }
+pub extern "C" fn lax_tween_reset(w: &mut [u32; 18]) -> u32
 {
-    match tween_of(w) {
-        TweenRead::Known(t) => changed_words(w, t.reset()),
-        TweenRead::Unknown => unchanged(w, UNKNOWN_WORD),
+    match tween_of(tween_in(w)) {
+        TweenRead::Known(t) => put_tween(t.reset(), w),
+        TweenRead::Unknown => UNKNOWN_WORD,
     }
 }
 
 #[no_mangle]
-pub extern "C" fn lax_tween_seek(w: LaxTween, p: f32) -> LaxChanged
-    ensures { λ r. ⌜ r ≡ laxTweenSeek w p ⌝ }
+pub extern "C" fn lax_tween_seek(w: &mut [u32; 18], p: f32) -> u32
 {
-    match tween_of(w) {
-        TweenRead::Known(t) => changed_words(w, t.seek(Progress(p))),
-        TweenRead::Unknown => unchanged(w, UNKNOWN_WORD),
+    match tween_of(tween_in(w)) {
+        TweenRead::Known(t) => put_tween(t.seek(Progress(p)), w),
+        TweenRead::Unknown => UNKNOWN_WORD,
     }
 }
 
 #[no_mangle]
-pub extern "C" fn lax_tween_reverse(w: LaxTween) -> LaxChanged
-    ensures { λ r. ⌜ r ≡ laxTweenReverse w ⌝ }
+pub extern "C" fn lax_tween_reverse(w: &mut [u32; 18]) -> u32
 {
-    match tween_of(w) {
-        TweenRead::Known(t) => changed_words(w, t.reverse()),
-        TweenRead::Unknown => unchanged(w, UNKNOWN_WORD),
+    match tween_of(tween_in(w)) {
+        TweenRead::Known(t) => put_tween(t.reverse(), w),
+        TweenRead::Unknown => UNKNOWN_WORD,
     }
 }
 
 #[no_mangle]
-pub extern "C" fn lax_tween_pause(w: LaxTween) -> LaxChanged
-    ensures { λ r. ⌜ r ≡ laxTweenPause w ⌝ }
+pub extern "C" fn lax_tween_pause(w: &mut [u32; 18]) -> u32
 {
-    match tween_of(w) {
-        TweenRead::Known(t) => changed_words(w, t.pause()),
-        TweenRead::Unknown => unchanged(w, UNKNOWN_WORD),
+    match tween_of(tween_in(w)) {
+        TweenRead::Known(t) => put_tween(t.pause(), w),
+        TweenRead::Unknown => UNKNOWN_WORD,
     }
 }
 
 #[no_mangle]
-pub extern "C" fn lax_tween_resume(w: LaxTween) -> LaxChanged
-    ensures { λ r. ⌜ r ≡ laxTweenResume w ⌝ }
+pub extern "C" fn lax_tween_resume(w: &mut [u32; 18]) -> u32
 {
-    match tween_of(w) {
-        TweenRead::Known(t) => changed_words(w, t.resume()),
-        TweenRead::Unknown => unchanged(w, UNKNOWN_WORD),
+    match tween_of(tween_in(w)) {
+        TweenRead::Known(t) => put_tween(t.resume(), w),
+        TweenRead::Unknown => UNKNOWN_WORD,
     }
 }
 
+// out: the folds, and 1 where the tween is not completed.
 #[no_mangle]
-pub extern "C" fn lax_tween_update(w: LaxTween, step: f32) -> LaxUpdated
-    ensures { λ r. ⌜ r ≡ laxTweenUpdate w step ⌝ }
+pub extern "C" fn lax_tween_update(w: &mut [u32; 18], step: f32, out: &mut [u32; 2]) -> u32
 {
-    match tween_of(w) {
-        TweenRead::Known(t) => updated_words(w, t.update(step)),
-        TweenRead::Unknown => not_updated(w, UNKNOWN_WORD),
+    match tween_of(tween_in(w)) {
+        TweenRead::Known(t) => match t.update(step) {
+            Updated::Ran {
+                tween,
+                folds,
+                running,
+            } => {
+                store_tween(w, tween);
+                *out = [folds, flag_word(running)];
+                0
+            }
+            Updated::Refused { tween: _, refusal } => refusal.number(),
+        },
+        TweenRead::Unknown => UNKNOWN_WORD,
     }
 }
 
-// The value after each step and the folds of each go into the fronts of values and folds.
+// The value after each step and the folds of each go into the fronts of values and folds. out: how many
+// steps were taken, and how many of the values are not settled.
 #[no_mangle]
 pub extern "C" fn lax_tween_run(
-    w: LaxTween,
+    w: &mut [u32; 18],
     steps: &[f32],
     values: &mut [f32],
     folds: &mut [u32],
-) -> LaxRun
-    ensures answer { λ r. ⌜ r ≡ laxTweenRun w (now (steps .entry)) (now (values .entry)) (now (folds .entry)) ⌝ }
-    ensures value { λ _. ⌜ now (values .exit) ≡ laxRunValues w (now (steps .entry)) (now (values .entry)) (now (folds .entry)) ⌝ }
-    ensures fold { λ _. ⌜ now (folds .exit) ≡ laxRunFolds w (now (steps .entry)) (now (values .entry)) (now (folds .entry)) ⌝ }
+    out: &mut [usize; 2],
+) -> u32
 {
-    match tween_of(w) {
+    match tween_of(tween_in(w)) {
         TweenRead::Known(t) => {
             let run = run_steps(t, steps, values, folds);
-            run_words(w, run)
+            let outcome = run.outcome;
+            let number = outcome_number(outcome);
+            if run.done == 0 {
+                if number == 0 {
+                    *out = [0, 0];
+                }
+                return number;
+            }
+            let reached = run.tween;
+            store_tween(w, reached);
+            *out = [run.done, run.unsettled];
+            number
         }
-        TweenRead::Unknown => LaxRun {
-            done: 0,
-            unsettled: 0,
-            number: UNKNOWN_WORD,
-            tween: w,
-        },
+        TweenRead::Unknown => UNKNOWN_WORD,
     }
 }

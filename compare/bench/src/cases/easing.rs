@@ -2,6 +2,8 @@ use super::{Case, name_of};
 use crate::ffi::lax_easing_apply;
 use crate::meaning::easing_words;
 use crate::rules::is_one_of_twelve;
+use crate::side::Valued;
+use crate::words::FoundPlace;
 use crate::{inputs, rust, side};
 use oracle::Easing;
 use std::hint::black_box;
@@ -23,8 +25,10 @@ fn apply(easing: &'static Easing) -> Case {
         answers: PROGRESSES as f64,
         size: 1,
         ours: side::filling(PROGRESSES, move |answers| {
+            let (easing, mut out) = (black_box(&words), FoundPlace::default());
             for (answer, t) in answers.iter_mut().zip(&progresses) {
-                *answer = lax_easing_apply(words, *t);
+                let number = lax_easing_apply(easing, *t, &mut out);
+                *answer = Valued { number, value: out.value };
             }
         }),
         rust: side::filling(PROGRESSES, move |answers| {

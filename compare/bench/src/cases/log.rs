@@ -1,6 +1,6 @@
 use super::Case;
 use crate::ffi::{log_head, log_record, log_replay};
-use crate::words::LaxEvent;
+use crate::words::{LaxEvent, ReplayPlace};
 use crate::{inputs, meaning, rust, side};
 use oracle::Easing;
 use std::hint::black_box;
@@ -34,9 +34,10 @@ fn written() -> Case {
         answers: RECORDS as f64,
         size: 1,
         ours: side::filling(5 + 8 * RECORDS, move |log: &mut [u8]| {
-            let mut written = log_head(log).written;
+            let mut written = 0;
+            log_head(log, &mut written);
             for event in &events {
-                written = log_record(log, written, *event).written;
+                log_record(log, &mut written, event);
             }
         }),
         rust: side::filling(5 + 8 * RECORDS, move |log: &mut [u8]| {
@@ -51,9 +52,10 @@ fn written() -> Case {
 /// A log of steps, from whose middle some are lost.
 fn log() -> Vec<u8> {
     let mut log = vec![0; 5 + 8 * (REPLAYED + LOST)];
-    let mut written = log_head(&mut log).written;
+    let mut written = 0;
+    log_head(&mut log, &mut written);
     for step in inputs::below(0.5, REPLAYED + LOST) {
-        written = log_record(&mut log, written, LaxEvent { kind: 1, step }).written;
+        log_record(&mut log, &mut written, &LaxEvent { kind: 1, step });
     }
     let middle = 5 + 8 * (REPLAYED / 2);
     log.drain(middle..middle + 8 * LOST);
@@ -74,9 +76,10 @@ fn replayed() -> Case {
         answers: REPLAYED as f64,
         size: 1,
         ours: side::filling(REPLAYED + 3, move |answers: &mut [u16]| {
-            let answer = log_replay(first, &log, &mut answers[..REPLAYED]);
-            assert_eq!((answer.number, answer.done), (0, REPLAYED));
-            end(answers, answer.reached.missing, answer.reached.tween.elapsed);
+            let (mut tween, mut reached) = (first, ReplayPlace { missing: 0, folds: 0, last: 0, done: 0 });
+            let number = log_replay(black_box(&mut tween), &log, &mut answers[..REPLAYED], &mut reached);
+            assert_eq!((number, reached.done), (0, REPLAYED as u64));
+            end(answers, reached.missing, tween.elapsed);
         }),
         rust: side::filling(REPLAYED + 3, move |answers: &mut [u16]| {
             let mut tween = begun.clone();

@@ -1,7 +1,8 @@
 use super::{BEZIER, Case, name_of};
 use crate::ffi::{lax_track_value_at, track_values_at};
 use crate::rules::last_time;
-use crate::words::LaxTrack;
+use crate::side::Valued;
+use crate::words::{CountedPlace, FoundPlace, LaxTrack};
 use crate::{inputs, meaning, rust, side};
 use oracle::Easing;
 use std::hint::black_box;
@@ -56,8 +57,10 @@ fn value_at(easing: &Easing, frames: usize) -> Case {
         answers: TIMES as f64,
         size: 1,
         ours: side::filling(TIMES, move |answers| {
+            let (track, mut out) = (black_box(&words), FoundPlace::default());
             for (answer, time) in answers.iter_mut().zip(&times) {
-                *answer = lax_track_value_at(words, *time);
+                let number = lax_track_value_at(track, *time, &mut out);
+                *answer = Valued { number, value: out.value };
             }
         }),
         rust: side::filling(TIMES, move |answers| {
@@ -103,7 +106,8 @@ fn batch(words: LaxTrack, times: Vec<f32>, samples: usize) -> Case {
         size: samples,
         ours: side::filling(count, move |answers| {
             for (out, times) in answers.chunks_mut(samples).zip(times.chunks(samples)) {
-                assert_eq!(track_values_at(words, times, out).number, 0);
+                let mut filled = CountedPlace { count: 0, unsettled: 0 };
+                assert_eq!(track_values_at(black_box(&words), times, out, &mut filled), 0);
             }
         }),
         rust: side::filling(count, move |answers| {

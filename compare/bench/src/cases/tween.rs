@@ -1,7 +1,7 @@
 use super::{BEZIER, Case, name_of};
 use crate::ffi::{lax_tween_update, lax_tween_value, tween_run};
-use crate::side::Stepped;
-use crate::words::LaxTween;
+use crate::side::{Stepped, Valued};
+use crate::words::{CountedPlace, FoundPlace, LaxTween, UpdatedPlace};
 use crate::{inputs, meaning, rust, side};
 use oracle::Easing;
 use std::hint::black_box;
@@ -42,12 +42,10 @@ fn update(folds: u32) -> Case {
         answers: STEPS as f64,
         size: folds as usize,
         ours: side::filling(STEPS, move |answers| {
-            let mut tween = first;
+            let (mut tween, mut out) = (first, UpdatedPlace::default());
             for (answer, step) in answers.iter_mut().zip(&steps) {
-                let updated = lax_tween_update(tween, *step);
-                tween = updated.tween;
-                *answer =
-                    Stepped { number: updated.number, running: updated.running, elapsed: tween.elapsed };
+                let number = lax_tween_update(black_box(&mut tween), *step, &mut out);
+                *answer = Stepped { number, running: out.running, elapsed: tween.elapsed };
             }
         }),
         rust: side::filling(STEPS, move |answers| {
@@ -70,8 +68,10 @@ fn value(easing: &Easing) -> Case {
         answers: TWEENS as f64,
         size: 1,
         ours: side::filling(TWEENS, move |answers| {
-            for (answer, tween) in answers.iter_mut().zip(&words) {
-                *answer = lax_tween_value(*tween);
+            let mut out = FoundPlace::default();
+            for (answer, tween) in answers.iter_mut().zip(black_box(&words)) {
+                let number = lax_tween_value(tween, &mut out);
+                *answer = Valued { number, value: out.value };
             }
         }),
         rust: side::filling(TWEENS, move |answers| {
@@ -91,7 +91,8 @@ fn run(folds: u32) -> Case {
         answers: STEPS as f64,
         size: STEPS,
         ours: side::filling(STEPS, move |values| {
-            assert_eq!(tween_run(first, &steps, values, &mut made).number, 0);
+            let (mut tween, mut out) = (first, CountedPlace { count: 0, unsettled: 0 });
+            assert_eq!(tween_run(black_box(&mut tween), &steps, values, &mut made, &mut out), 0);
         }),
         rust: side::filling(STEPS, move |values| {
             rust::run(black_box(&mut begun.clone()), &same, values);

@@ -1,5 +1,5 @@
 use super::Maker;
-use crate::ffi::{log_head, log_record};
+use crate::calls::{log_head, log_record};
 use crate::log::{HEAD, RECORD};
 use crate::make::LAST_NUMBERS;
 use crate::replay::played;
@@ -30,7 +30,7 @@ pub fn written(events: &[LaxEvent]) -> Vec<u32> {
     let mut log = vec![0; HEAD + RECORD * events.len()];
     let mut end = log_head(&mut log).written;
     for event in events {
-        end = log_record(&mut log, end, *event).written;
+        end = log_record(&mut log, end, event).written;
     }
     log[..end].iter().map(|byte| u32::from(*byte)).collect()
 }

@@ -1,5 +1,5 @@
+use crate::calls::*;
 use crate::difference::{Difference, answered, must};
-use crate::ffi::*;
 use crate::meaning;
 use crate::rules;
 use crate::search;
@@ -32,15 +32,15 @@ impl EasingCall {
         let name = self.name();
         Ok(match self {
             Apply(e, t) => self.apply(e, *t)?,
-            Eq(x, y) => answered(name, lax_easing_eq(*x, *y), equal(x, y))?.number,
-            IsSupplied(e) => answered(name, lax_easing_is_supplied(*e), supplied(e))?.number,
-            Named(place) => answered(name, lax_easing_named(*place), named(*place))?.number,
+            Eq(x, y) => answered(name, easing_eq(x, y), equal(x, y))?.number,
+            IsSupplied(e) => answered(name, easing_is_supplied(e), supplied(e))?.number,
+            Named(place) => answered(name, easing_named(*place), named(*place))?.number,
         })
     }
 
     fn apply(&self, e: &LaxEasing, t: f32) -> Result<u32, Difference> {
         let (name, expected) = (self.name(), applied(e, t));
-        let ours = answered(name, lax_easing_apply(*e, t), found(expected, || search::of_easing(e, t)))?;
+        let ours = answered(name, easing_apply(e, t), found(expected, || search::of_easing(e, t)))?;
         let same = || search::value(e, t).is_none_or(|value| value.to_bits() == expected.value.to_bits());
         must(&format!("{name}: the search written again is the Rust's"), expected.number != 0 || same())?;
         Ok(ours.number)

@@ -1,5 +1,5 @@
+use crate::calls::{log_head, log_record};
 use crate::difference::{Difference, must, same_bits, same_count};
-use crate::ffi::{log_head, log_record};
 use crate::log::{self, Entry, HEAD, RECORD};
 use crate::rules::{self, STEP, counted};
 use crate::subjects::lent::Lent;
@@ -64,7 +64,7 @@ impl LogCall {
 
     fn record(&self, before: &[u8], written: usize, event: &LaxEvent) -> Result<u32, Difference> {
         let mut lent = Lent::new(before);
-        let answer = log_record(lent.list(), written, *event);
+        let answer = log_record(lent.list(), written, event);
         let number = rules::record_refused(before, written, event);
         if number != 0 {
             self.answered(answer, LaxLogged { written, number })?;
@@ -95,7 +95,7 @@ impl LogCall {
         let mut records = Vec::new();
         for event in (0..rounds).flat_map(|_| events) {
             let number = rules::record_refused(lent.list(), answer.written, event);
-            answer = log_record(lent.list(), answer.written, *event);
+            answer = log_record(lent.list(), answer.written, event);
             if number == 0 {
                 let number = records.len() as u32 % 65_536;
                 records.push(Entry { number, event: logged(event) });

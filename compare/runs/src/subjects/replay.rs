@@ -1,6 +1,8 @@
+use crate::calls::*;
 use crate::difference::{Difference, same, same_bits, same_count};
-use crate::ffi::*;
+use crate::ffi::{lax_tween_pause, lax_tween_reset, lax_tween_resume};
 use crate::log::{HEAD, RECORD};
+use crate::meaning;
 use crate::replay::{begun, replayed, replayed_on};
 use crate::rules::{self, PAUSE, RESUME, STEP};
 use crate::subjects::bytes;
@@ -51,18 +53,21 @@ impl ReplayCall {
     pub fn check(&self) -> Result<u32, Difference> {
         match self {
             Log { tween, log, gaps } => self.hold(
+                tween,
                 &bytes(log),
                 *gaps,
-                |log, gaps| log_replay(*tween, log, gaps),
+                |log, gaps| log_replay(&begun(tween), log, gaps),
                 |log, gaps| replayed(tween, log, gaps),
             ),
             On { reached, records, gaps } => self.hold(
+                &reached.tween,
                 &bytes(records),
                 *gaps,
-                |records, gaps| log_replay_on(*reached, records, gaps),
+                |records, gaps| log_replay_on(reached, records, gaps),
                 |records, gaps| replayed_on(reached, records, gaps),
             ),
             Parts { tween, log, parts } => self.hold(
+                tween,
                 &bytes(whole_records(log)),
                 records_in(log.len()),
                 |log, gaps| in_parts(tween, log, parts, gaps),
@@ -75,6 +80,7 @@ impl ReplayCall {
     /// Ours and the reader's, each with the same bytes and a list of its own.
     fn hold(
         &self,
+        came: &LaxTween,
         bytes: &[u8],
         gaps: usize,
         ours: impl FnOnce(&[u8], &mut [u16]) -> LaxReplayed,
@@ -84,7 +90,7 @@ impl ReplayCall {
         let (mut lent, mut written) = (Lent::new(bytes), Lent::new(&list));
         let ours = ours(lent.list(), written.list());
         let expected = reader(bytes, &mut list);
-        self.answered(&ours, &expected)?;
+        self.answered(came, &ours, &expected)?;
         written.same(self.name(), "gaps", &list)?;
         lent.same(self.name(), "bytes", bytes)?;
         Ok(expected.number)
@@ -98,12 +104,17 @@ impl ReplayCall {
         let mut list = unwritten(left.done + 1);
         let mut written = Lent::new(&list);
         list[..left.done].fill(0);
-        self.answered(&log_replay(*t, &log, written.list()), &left)?;
+        self.answered(t, &log_replay(&begun(t), &log, written.list()), &left)?;
         written.same(self.name(), "gaps", &list)?;
         Ok(number)
     }
 
-    fn answered(&self, ours: &LaxReplayed, expected: &LaxReplayed) -> Result<(), Difference> {
+    fn answered(
+        &self,
+        came: &LaxTween,
+        ours: &LaxReplayed,
+        expected: &LaxReplayed,
+    ) -> Result<(), Difference> {
         let name = self.name();
         for ((word, ours), (_, expected)) in counts(ours).into_iter().zip(counts(expected)) {
             same_count(format!("{name}: {word}"), ours, expected)?;
@@ -111,7 +122,7 @@ impl ReplayCall {
         if expected.done == 0 {
             same_bits(name, &ours.reached.tween, &expected.reached.tween)
         } else {
-            same(name, &ours.reached.tween, &expected.reached.tween)
+            same(name, &ours.reached.tween, &meaning::tween_onto(came, &expected.reached.tween))
         }
     }
 }
@@ -154,13 +165,13 @@ fn in_parts(t: &LaxTween, log: &[u8], parts: &[u32], gaps: &mut [u16]) -> LaxRep
         })
         .collect();
     ends.push(log.len());
-    let mut whole = log_replay(*t, &log[..ends[0]], gaps);
+    let mut whole = log_replay(&begun(t), &log[..ends[0]], gaps);
     for part in ends.windows(2) {
         if whole.number != 0 {
             break;
         }
         let rest = gaps.get_mut(whole.done..).unwrap_or_default();
-        let answer = log_replay_on(whole.reached, &log[part[0]..part[1]], rest);
+        let answer = log_replay_on(&whole.reached, &log[part[0]..part[1]], rest);
         whole = LaxReplayed { done: whole.done + answer.done, ..answer };
     }
     whole
@@ -171,7 +182,7 @@ fn logged_run(left: &mut LaxReplayed, events: &[LaxEvent], rounds: u32) -> Vec<u
     let mut log = vec![0; HEAD + RECORD * events.len() * rounds as usize];
     let mut written = log_head(&mut log).written;
     for event in (0..rounds).flat_map(|_| events) {
-        let logged = log_record(&mut log, written, *event);
+        let logged = log_record(&mut log, written, event);
         let (number, folds, tween) = called(&left.reached.tween, event);
         if logged.number != 0 || number != 0 {
             continue;
@@ -190,12 +201,12 @@ fn logged_run(left: &mut LaxReplayed, events: &[LaxEvent], rounds: u32) -> Vec<u
 fn called(t: &LaxTween, event: &LaxEvent) -> (u32, u32, LaxTween) {
     let changed = match event.kind {
         STEP => {
-            let updated = lax_tween_update(*t, event.step);
+            let updated = tween_update(t, event.step);
             return (updated.number, updated.folds, updated.tween);
         }
-        PAUSE => lax_tween_pause(*t),
-        RESUME => lax_tween_resume(*t),
-        _ => lax_tween_reset(*t),
+        PAUSE => tween_changed(t, |t| lax_tween_pause(t)),
+        RESUME => tween_changed(t, |t| lax_tween_resume(t)),
+        _ => tween_changed(t, |t| lax_tween_reset(t)),
     };
     (changed.number, 0, changed.tween)
 }

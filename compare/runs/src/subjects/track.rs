@@ -1,5 +1,9 @@
+use crate::calls::*;
 use crate::difference::{Difference, answered, must, same_bits, same_count, same_list};
-use crate::ffi::*;
+use crate::ffi::{
+    lax_track_looping, lax_track_push, lax_track_push_eased, lax_track_push_frame, lax_track_reset,
+    lax_track_seek_to,
+};
 use crate::meaning;
 use crate::rules;
 use crate::search::{self, Search};
@@ -57,19 +61,27 @@ impl TrackCall {
         let name = self.name();
         match self {
             Push(..) | PushEased(..) | Looping(_) | Reset | SeekTo(_) => {
-                let ours = answered(name, self.change(t), self.changed(t))?;
+                let LaxTrackChanged { number, track } = self.changed(t);
+                let expected = LaxTrackChanged { number, track: self.onto(t, number, track) };
+                let ours = answered(name, self.change(t), expected)?;
                 if let Some(frame) = self.pushed() {
-                    same_bits("track push_frame", &lax_track_push_frame(*t, frame), &ours)?;
+                    same_bits(
+                        "track push_frame",
+                        &track_changed(t, |t| lax_track_push_frame(t, &frame)),
+                        &ours,
+                    )?;
                 }
                 self.kept(ours.number, t, ours.track)
             }
             Update(step) => {
-                let ours = answered(name, lax_track_update(*t, *step), self.stepped(t, *step))?;
+                let after = self.stepped(t, *step);
+                let expected = LaxTrackUpdated { track: self.onto(t, after.number, after.track), ..after };
+                let ours = answered(name, track_update(t, *step), expected)?;
                 self.kept(ours.number, t, ours.track)
             }
             ValuesAt { times, out } => self.samples(t, times, *out),
             IsComplete => {
-                let ours = answered(name, lax_track_is_complete(*t), self.completion(t))?;
+                let ours = answered(name, track_is_complete(t), self.completion(t))?;
                 Ok((ours.number, None))
             }
             ValueAt(_) | Value => {
@@ -78,6 +90,20 @@ impl TrackCall {
             }
             _ => answered(name, self.value(t), self.read(t)).map(|ours| (ours.number, None)),
         }
+    }
+
+    /// Words that a kind or a mode has no use for stay as they came, with the frame or the mode.
+    fn onto(&self, came: &LaxTrack, number: u32, t: LaxTrack) -> LaxTrack {
+        if number != 0 {
+            return t;
+        }
+        let pushed = self.pushed();
+        let mut track = t;
+        for frame in &mut track.frames[..t.count as usize] {
+            *frame = meaning::frame_onto(pushed.iter().chain(rules::frames(came)), frame);
+        }
+        let looping = if let Looping(mode) = self { *mode } else { came.looping };
+        LaxTrack { looping, ..track }
     }
 
     fn refused(&self, t: &LaxTrack) -> u32 {
@@ -105,11 +131,13 @@ impl TrackCall {
 
     fn change(&self, t: &LaxTrack) -> LaxTrackChanged {
         match self {
-            Push(time, value) => lax_track_push(*t, *time, *value),
-            PushEased(time, value, easing) => lax_track_push_eased(*t, *time, *value, *easing),
-            Looping(mode) => lax_track_looping(*t, *mode),
-            SeekTo(progress) => lax_track_seek_to(*t, *progress),
-            _ => lax_track_reset(*t),
+            Push(time, value) => track_changed(t, |t| lax_track_push(t, *time, *value)),
+            PushEased(time, value, easing) => {
+                track_changed(t, |t| lax_track_push_eased(t, *time, *value, easing))
+            }
+            Looping(mode) => track_changed(t, |t| lax_track_looping(t, mode)),
+            SeekTo(progress) => track_changed(t, |t| lax_track_seek_to(t, *progress)),
+            _ => track_changed(t, |t| lax_track_reset(t)),
         }
     }
 
@@ -158,8 +186,8 @@ impl TrackCall {
 
     fn find(&self, t: &LaxTrack) -> LaxFound {
         match self {
-            ValueAt(secs) => lax_track_value_at(*t, *secs),
-            _ => lax_track_value(*t),
+            ValueAt(secs) => track_value_at(t, *secs),
+            _ => track_value(t),
         }
     }
 
@@ -172,10 +200,10 @@ impl TrackCall {
 
     fn value(&self, t: &LaxTrack) -> LaxValue {
         match self {
-            ActiveTime => lax_track_active_time(*t),
-            Duration => lax_track_duration(*t),
-            PlaybackDuration => lax_track_playback_duration(*t),
-            _ => lax_track_progress(*t),
+            ActiveTime => track_active_time(t),
+            Duration => track_duration(t),
+            PlaybackDuration => track_playback_duration(t),
+            _ => track_progress(t),
         }
     }
 
@@ -201,7 +229,7 @@ impl TrackCall {
         let mut ours = vec![SENTINEL; out + GUARD];
         let mut expected = ours.clone();
         let lent = times.to_vec();
-        let answer = track_values_at(*t, &lent, &mut ours[..out]);
+        let answer = track_values_at(t, &lent, &mut ours[..out]);
         let LaxFilled { filled, unsettled, number } = sampled(t, times, &mut expected[..out]);
         let name = self.name();
         same_count(format!("{name}: number"), answer.number as usize, number as usize)?;
@@ -241,7 +269,7 @@ pub fn new_track() -> LaxTrack {
 }
 
 pub fn check_new_track() -> Result<LaxTrack, Difference> {
-    let ours = lax_track_new();
+    let ours = track_new();
     same_bits(NEW_TRACK, &ours, &new_track())?;
     Ok(ours)
 }

@@ -1,5 +1,6 @@
+use crate::calls::*;
 use crate::difference::{Difference, answered, must, same, same_bits, same_count, same_list};
-use crate::ffi::*;
+use crate::ffi::{lax_tween_pause, lax_tween_reset, lax_tween_resume, lax_tween_reverse, lax_tween_seek};
 use crate::meaning;
 use crate::rules::{self, LIMIT, folds};
 use crate::search;
@@ -59,13 +60,17 @@ impl TweenCall {
             Progress | PlaybackDuration => {
                 answered(name, self.value(t), self.read(t)).map(|answer| (answer.number, *t))
             }
-            Snapshot => answered(name, lax_tween_snapshot(*t), snapped(t)).map(|answer| (answer.number, *t)),
+            Snapshot => answered(name, tween_snapshot(t), snapped(t)).map(|answer| (answer.number, *t)),
             Reset | Seek(_) | Reverse | Pause | Resume => {
-                let ours = answered(name, self.change(t), self.changed(t))?;
+                let LaxChanged { number, tween } = self.changed(t);
+                let expected = LaxChanged { number, tween: meaning::tween_onto(t, &tween) };
+                let ours = answered(name, self.change(t), expected)?;
                 self.kept(ours.number, ours.tween)
             }
             Update(step) => {
-                let ours = answered(name, lax_tween_update(*t, *step), updated(t, *step))?;
+                let after = updated(t, *step);
+                let expected = LaxUpdated { tween: meaning::tween_onto(t, &after.tween), ..after };
+                let ours = answered(name, tween_update(t, *step), expected)?;
                 self.kept(ours.number, ours.tween)
             }
             Run { steps, values, folds } => self.run(t, steps, *values, *folds),
@@ -74,15 +79,15 @@ impl TweenCall {
 
     fn find(&self, t: &LaxTween) -> LaxFound {
         match self {
-            Value => lax_tween_value(*t),
-            _ => lax_tween_eased_progress(*t),
+            Value => tween_value(t),
+            _ => tween_eased_progress(t),
         }
     }
 
     fn value(&self, t: &LaxTween) -> LaxValue {
         match self {
-            Progress => lax_tween_progress(*t),
-            _ => lax_tween_playback_duration(*t),
+            Progress => tween_progress(t),
+            _ => tween_playback_duration(t),
         }
     }
 
@@ -104,11 +109,11 @@ impl TweenCall {
 
     fn change(&self, t: &LaxTween) -> LaxChanged {
         match self {
-            Seek(progress) => lax_tween_seek(*t, *progress),
-            Reverse => lax_tween_reverse(*t),
-            Pause => lax_tween_pause(*t),
-            Resume => lax_tween_resume(*t),
-            _ => lax_tween_reset(*t),
+            Seek(progress) => tween_changed(t, |t| lax_tween_seek(t, *progress)),
+            Reverse => tween_changed(t, |t| lax_tween_reverse(t)),
+            Pause => tween_changed(t, |t| lax_tween_pause(t)),
+            Resume => tween_changed(t, |t| lax_tween_resume(t)),
+            _ => tween_changed(t, |t| lax_tween_reset(t)),
         }
     }
 
@@ -145,7 +150,7 @@ impl TweenCall {
         let mut our_folds = vec![SENTINEL.to_bits(); folds + GUARD];
         let (mut all_values, mut all_folds) = (our_values.clone(), our_folds.clone());
         let lent = steps.to_vec();
-        let ours = tween_run(*t, &lent, &mut our_values[..values], &mut our_folds[..folds]);
+        let ours = tween_run(t, &lent, &mut our_values[..values], &mut our_folds[..folds]);
         let expected = ran(t, steps, &mut all_values[..values], &mut all_folds[..folds]);
         let name = self.name();
         same_count(format!("{name}: number"), ours.number as usize, expected.number as usize)?;
@@ -154,7 +159,7 @@ impl TweenCall {
         if expected.done == 0 {
             same_bits(name, &ours.tween, t)?;
         } else {
-            same(name, &ours.tween, &expected.tween)?;
+            same(name, &ours.tween, &meaning::tween_onto(t, &expected.tween))?;
         }
         same_list(&format!("{name}: values"), Float, &bits(&our_values), &bits(&all_values), expected.done)?;
         same_list(&format!("{name}: folds"), Whole, &our_folds, &all_folds, expected.done)?;
@@ -231,7 +236,7 @@ pub fn new_tween(start: f32, end: f32) -> LaxTween {
 }
 
 pub fn check_new_tween(start: f32, end: f32) -> Result<LaxTween, Difference> {
-    let ours = lax_tween_new(start, end);
+    let ours = tween_new(start, end);
     same_bits(NEW_TWEEN, &ours, &new_tween(start, end))?;
     Ok(ours)
 }
