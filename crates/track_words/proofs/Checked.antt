@@ -1,15 +1,16 @@
 -- The cases of a check. Assumes nothing.
 use Prim.Native.Nat.{ℕ, _<_, _≤_}
+use native.Mathlib.Omega.{arith}
 use mathlib.Core.Path.{_≡_, refl, sym}
-use mathlib.Core.Bool.{true, false, _&&_}
+use mathlib.Core.Bool.{Bool, true, false, cond, _&&_}
 use mathlib.Core.List.{List}
 use lib.ListN.{take}
 use lib.Ieee.{Float}
 use Rattle.math.proofs.Choice.{and-both}
 use Rattle.frames.specs.Limits.{framesWithin}
 use Rattle.frames.specs.Sampling.{durationOf}
-use Rattle.keyframe.specs.Limits.{withinOf}
-use Rattle.keyframe.proofs.Records.{broken, clocked, too-many}
+use Rattle.keyframe.specs.Limits.{framesIn, withinOf}
+use Rattle.keyframe.proofs.Records.{broken, clocked, few-frames, frames-fine, too-many}
 use Rattle.words.specs.Lent.{wordAt, trackIn}
 use Rattle.words.specs.Modes.{isMode}
 use Rattle.words.specs.Tracks.{knownKinds, knownTrack, placesIn, trackFrom}
@@ -51,3 +52,30 @@ module _ (words : List ℕ) where
     unfolding checkOf knownTrack trackFrom trackIn
     head-decides base e =
         rw (all-places n few, parts .0, ← clocked (trackOf words) few (rw (track-frames words few) (parts .1)) base (rw (track-frames words few) (sym e))) refl
+
+-- words that pass
+module _ (words : List ℕ) (fine : checkOf words ≡ 0) where
+  passed : (knownTrack (trackIn words) ≡ true) × (withinOf (trackOf words) ≡ true)
+  unfolding checkOf
+  passed = go (knownTrack (trackIn words)) (withinOf (trackOf words)) fine
+    where
+      go : (k i : Bool) → _≡_ {A = ℕ} (cond k (cond i 0 4) 100) 0 → (k ≡ true) × (i ≡ true)
+      go true true h = (refl, refl)
+      go true false h = absurd (omega (arith, h))
+      go false i h = absurd (omega (arith, h))
+
+  pub passed-known : knownTrack (trackIn words) ≡ true
+  passed-known = passed .0
+
+  pub passed-within : withinOf (trackOf words) ≡ true
+  passed-within = passed .1
+
+  pub passed-few : wordAt words 512 ≤ 64
+  unfolding trackFrom trackIn
+  passed-few = few-frames (trackOf words) passed-within
+
+  pub passed-frames : framesIn (trackOf words) ≡ take (wordAt words 512) (framesOf words)
+  passed-frames = track-frames words passed-few
+
+  pub passed-fine : framesWithin (take (wordAt words 512) (framesOf words)) ≡ true
+  passed-fine = rw (← passed-frames) (frames-fine (trackOf words) passed-within)
