@@ -1,2 +1,4 @@
 mod Quick
 mod Runs
+-- Laws that the functions' proofs cite.
+pub mod Tracked

@@ -1,4 +1,7 @@
 // A track read from its words, and written back.
+ghost use mathlib.Core.Path.{_≡_};
+ghost use Rattle.capi.specs.Answers.{foundWords};
+use bezier::Found;
 use keyframe::Changed;
 use keyframe::Outcome;
 use keyframe::Track;
@@ -105,4 +108,16 @@ pub fn put_track(a: Changed, w: &mut [u32; 518]) -> u32
         }
         Outcome::Refused(refusal) => refusal.number(),
     }
+}
+
+// The value's bits, whether it is settled, and how many the search evaluated.
+pub fn store_found(found: Found, out: &mut [u32; 4])
+    ensures { λ _. ⌜ now (out .exit) ≡ foundWords found ⌝ }
+{
+    *out = [
+        math::bits(found.value),
+        flag_word(found.settled),
+        found.xs,
+        found.derivatives as u32,
+    ];
 }

@@ -1,22 +1,22 @@
-// The calls of a track, lent as 518 words.
+// The calls of a track, lent as 518 words. Each answers 0, or the number of its refusal, and then it has
+// written nothing.
+ghost use mathlib.Core.Path.{_≡_};
+ghost use Rattle.capi.specs.Tracks.{laxTrackNew, laxTrackLooping, laxTrackValueAt, laxTrackValue, laxTrackValuesAt, laxTrackActiveTime, laxTrackDuration, laxTrackPlaybackDuration, laxTrackProgress, laxTrackIsComplete, laxTrackReset, laxTrackSeekTo, laxTrackUpdate};
 use crate::answers::UNKNOWN_WORD;
-use crate::answers::put_flag;
-use crate::answers::put_found;
-use crate::answers::put_progress;
-use crate::answers::put_seconds;
 use crate::track_answers::put_track;
-use crate::track_answers::put_whole;
+use crate::track_answers::store_found;
 use crate::track_answers::track_in;
 use easing::Easing;
-use keyframe::Completion;
-use keyframe::Stepped;
-use units::Progress;
-use units::Seconds;
+use keyframe::Clock;
+use keyframe::Ticked;
+use refusal::Refusal;
+use track_words::check;
 use words::FrameRead;
 use words::LaxKeyframe;
 use words::LoopRead;
 use words::easing_in;
 use words::easing_words;
+use words::flag_word;
 use words::frame_in;
 use words::is_known;
 use words::loop_in;
@@ -26,9 +26,180 @@ use words::track_of;
 
 #[no_mangle]
 pub extern "C" fn lax_track_new(w: &mut [u32; 518]) -> u32
+    ensures number { λ r. ⌜ r ≡ 0 ⌝ }
+    ensures words { λ _. ⌜ now (w .exit) ≡ laxTrackNew ⌝ }
 {
     *w = [0u32; 518];
     0
+}
+
+#[no_mangle]
+pub extern "C" fn lax_track_looping(w: &mut [u32; 518], mode: &[u32; 2]) -> u32
+    ensures number { λ r. ⌜ r ≡ laxTrackLooping (now (w .entry)) (now (mode .entry)) .number ⌝ }
+    ensures words { λ _. ⌜ now (w .exit) ≡ laxTrackLooping (now (w .entry)) (now (mode .entry)) .left ⌝ }
+{
+    let LoopRead::Known(looping) = loop_of(loop_in(mode)) else {
+        return UNKNOWN_WORD;
+    };
+    let number = check(w);
+    if number != 0 {
+        return number;
+    }
+    if !keyframe::mode_fits(looping, track_words::duration(w)) {
+        return Refusal::TrackLimit.number();
+    }
+    w[514] = mode[0];
+    w[515] = mode[1];
+    w[517] = 0;
+    0
+}
+
+#[no_mangle]
+pub extern "C" fn lax_track_value_at(w: &[u32; 518], secs: f32, out: &mut [u32; 4]) -> u32
+    ensures number { λ r. ⌜ r ≡ laxTrackValueAt (now (w .entry)) secs (now (out .entry)) .number ⌝ }
+    ensures words { λ _. ⌜ now (out .exit) ≡ laxTrackValueAt (now (w .entry)) secs (now (out .entry)) .left ⌝ }
+{
+    let number = check(w);
+    if number != 0 {
+        return number;
+    }
+    if track_words::count(w) == 0 {
+        return Refusal::NoFrames.number();
+    }
+    store_found(track_words::value_at(w, secs), out);
+    0
+}
+
+#[no_mangle]
+pub extern "C" fn lax_track_value(w: &[u32; 518], out: &mut [u32; 4]) -> u32
+    ensures number { λ r. ⌜ r ≡ laxTrackValue (now (w .entry)) (now (out .entry)) .number ⌝ }
+    ensures words { λ _. ⌜ now (out .exit) ≡ laxTrackValue (now (w .entry)) (now (out .entry)) .left ⌝ }
+{
+    let number = check(w);
+    if number != 0 {
+        return number;
+    }
+    if track_words::count(w) == 0 {
+        return Refusal::NoFrames.number();
+    }
+    store_found(track_words::value_at(w, track_words::active_time(w)), out);
+    0
+}
+
+#[no_mangle]
+pub extern "C" fn lax_track_active_time(w: &[u32; 518], out: &mut f32) -> u32
+    ensures number { λ r. ⌜ r ≡ laxTrackActiveTime (now (w .entry)) (now (out .entry)) .number ⌝ }
+    ensures place { λ _. ⌜ now (out .exit) ≡ laxTrackActiveTime (now (w .entry)) (now (out .entry)) .left ⌝ }
+{
+    let number = check(w);
+    if number != 0 {
+        return number;
+    }
+    *out = track_words::active_time(w);
+    0
+}
+
+#[no_mangle]
+pub extern "C" fn lax_track_duration(w: &[u32; 518], out: &mut f32) -> u32
+    ensures number { λ r. ⌜ r ≡ laxTrackDuration (now (w .entry)) (now (out .entry)) .number ⌝ }
+    ensures place { λ _. ⌜ now (out .exit) ≡ laxTrackDuration (now (w .entry)) (now (out .entry)) .left ⌝ }
+{
+    let number = check(w);
+    if number != 0 {
+        return number;
+    }
+    *out = track_words::duration(w);
+    0
+}
+
+#[no_mangle]
+pub extern "C" fn lax_track_playback_duration(w: &[u32; 518], out: &mut f32) -> u32
+    ensures number { λ r. ⌜ r ≡ laxTrackPlaybackDuration (now (w .entry)) (now (out .entry)) .number ⌝ }
+    ensures place { λ _. ⌜ now (out .exit) ≡ laxTrackPlaybackDuration (now (w .entry)) (now (out .entry)) .left ⌝ }
+{
+    let number = check(w);
+    if number != 0 {
+        return number;
+    }
+    *out = track_words::playback_duration(w);
+    0
+}
+
+#[no_mangle]
+pub extern "C" fn lax_track_progress(w: &[u32; 518], out: &mut f32) -> u32
+    ensures number { λ r. ⌜ r ≡ laxTrackProgress (now (w .entry)) (now (out .entry)) .number ⌝ }
+    ensures place { λ _. ⌜ now (out .exit) ≡ laxTrackProgress (now (w .entry)) (now (out .entry)) .left ⌝ }
+{
+    let number = check(w);
+    if number != 0 {
+        return number;
+    }
+    *out = track_words::progress(w);
+    0
+}
+
+#[no_mangle]
+pub extern "C" fn lax_track_is_complete(w: &[u32; 518], out: &mut u32) -> u32
+    ensures number { λ r. ⌜ r ≡ laxTrackIsComplete (now (w .entry)) (now (out .entry)) .number ⌝ }
+    ensures place { λ _. ⌜ now (out .exit) ≡ laxTrackIsComplete (now (w .entry)) (now (out .entry)) .left ⌝ }
+{
+    let number = check(w);
+    if number != 0 {
+        return number;
+    }
+    *out = flag_word(track_words::is_done(w));
+    0
+}
+
+#[no_mangle]
+pub extern "C" fn lax_track_reset(w: &mut [u32; 518]) -> u32
+    ensures number { λ r. ⌜ r ≡ laxTrackReset (now (w .entry)) .number ⌝ }
+    ensures words { λ _. ⌜ now (w .exit) ≡ laxTrackReset (now (w .entry)) .left ⌝ }
+{
+    let number = check(w);
+    if number != 0 {
+        return number;
+    }
+    track_words::store_clock(w, Clock::new(0.0, 0, false));
+    0
+}
+
+#[no_mangle]
+pub extern "C" fn lax_track_seek_to(w: &mut [u32; 518], p: f32) -> u32
+    ensures number { λ r. ⌜ r ≡ laxTrackSeekTo (now (w .entry)) p .number ⌝ }
+    ensures words { λ _. ⌜ now (w .exit) ≡ laxTrackSeekTo (now (w .entry)) p .left ⌝ }
+{
+    let number = check(w);
+    if number != 0 {
+        return number;
+    }
+    if math::is_nan(p) {
+        return Refusal::ProgressIsNan.number();
+    }
+    let c = track_words::seek(w, math::clamp01(p));
+    track_words::store_clock(w, c);
+    0
+}
+
+// running: 1 where the track is not complete, and has two frames or more.
+#[no_mangle]
+pub extern "C" fn lax_track_update(w: &mut [u32; 518], step: f32, out: &mut u32) -> u32
+    ensures number { λ r. ⌜ r ≡ laxTrackUpdate (now (w .entry)) step (now (out .entry)) .number ⌝ }
+    ensures words { λ _. ⌜ now (w .exit) ≡ laxTrackUpdate (now (w .entry)) step (now (out .entry)) .left .words ⌝ }
+    ensures place { λ _. ⌜ now (out .exit) ≡ laxTrackUpdate (now (w .entry)) step (now (out .entry)) .left .running ⌝ }
+{
+    let number = check(w);
+    if number != 0 {
+        return number;
+    }
+    match track_words::tick(w, step) {
+        Ticked::Ran { clock, running } => {
+            track_words::store_clock(w, clock);
+            *out = flag_word(running);
+            0
+        }
+        Ticked::Refused(refusal) => refusal.number(),
+    }
 }
 
 fn push_words(w: &mut [u32; 518], k: LaxKeyframe) -> u32
@@ -67,132 +238,6 @@ pub extern "C" fn lax_track_push_eased(
 pub extern "C" fn lax_track_push_frame(w: &mut [u32; 518], k: &[u32; 8]) -> u32
 {
     push_words(w, frame_in(k))
-}
-
-#[no_mangle]
-pub extern "C" fn lax_track_looping(w: &mut [u32; 518], mode: &[u32; 2]) -> u32
-{
-    let t = track_in(w);
-    if is_known(t) {
-        let LoopRead::Known(looping) = loop_of(loop_in(mode)) else {
-            return UNKNOWN_WORD;
-        };
-        return put_track(track_of(t).looping(looping), w);
-    }
-    UNKNOWN_WORD
-}
-
-#[no_mangle]
-pub extern "C" fn lax_track_value_at(w: &[u32; 518], secs: f32, out: &mut [u32; 4]) -> u32
-{
-    let t = track_in(w);
-    if is_known(t) {
-        return put_found(track_of(t).value_at(Seconds(secs)), out);
-    }
-    UNKNOWN_WORD
-}
-
-#[no_mangle]
-pub extern "C" fn lax_track_value(w: &[u32; 518], out: &mut [u32; 4]) -> u32
-{
-    let t = track_in(w);
-    if is_known(t) {
-        return put_found(track_of(t).value(), out);
-    }
-    UNKNOWN_WORD
-}
-
-#[no_mangle]
-pub extern "C" fn lax_track_active_time(w: &[u32; 518], out: &mut f32) -> u32
-{
-    let t = track_in(w);
-    if is_known(t) {
-        return put_seconds(track_of(t).active_time(), out);
-    }
-    UNKNOWN_WORD
-}
-
-#[no_mangle]
-pub extern "C" fn lax_track_duration(w: &[u32; 518], out: &mut f32) -> u32
-{
-    let t = track_in(w);
-    if is_known(t) {
-        return put_seconds(track_of(t).duration(), out);
-    }
-    UNKNOWN_WORD
-}
-
-#[no_mangle]
-pub extern "C" fn lax_track_playback_duration(w: &[u32; 518], out: &mut f32) -> u32
-{
-    let t = track_in(w);
-    if is_known(t) {
-        return put_seconds(track_of(t).playback_duration(), out);
-    }
-    UNKNOWN_WORD
-}
-
-#[no_mangle]
-pub extern "C" fn lax_track_progress(w: &[u32; 518], out: &mut f32) -> u32
-{
-    let t = track_in(w);
-    if is_known(t) {
-        return put_progress(track_of(t).progress(), out);
-    }
-    UNKNOWN_WORD
-}
-
-#[no_mangle]
-pub extern "C" fn lax_track_is_complete(w: &[u32; 518], out: &mut u32) -> u32
-{
-    let t = track_in(w);
-    if is_known(t) {
-        return match track_of(t).is_complete() {
-            Completion::Complete(b) => put_flag(b, out),
-            Completion::Refused(refusal) => refusal.number(),
-        };
-    }
-    UNKNOWN_WORD
-}
-
-#[no_mangle]
-pub extern "C" fn lax_track_reset(w: &mut [u32; 518]) -> u32
-{
-    let t = track_in(w);
-    if is_known(t) {
-        return put_track(track_of(t).reset(), w);
-    }
-    UNKNOWN_WORD
-}
-
-#[no_mangle]
-pub extern "C" fn lax_track_seek_to(w: &mut [u32; 518], p: f32) -> u32
-{
-    let t = track_in(w);
-    if is_known(t) {
-        return put_track(track_of(t).seek_to(Progress(p)), w);
-    }
-    UNKNOWN_WORD
-}
-
-// running: 1 where the track is not complete, and has two frames or more.
-#[no_mangle]
-pub extern "C" fn lax_track_update(w: &mut [u32; 518], step: f32, out: &mut u32) -> u32
-{
-    let t = track_in(w);
-    if is_known(t) {
-        let a = track_of(t).update(step);
-        let track = a.track;
-        let stepped = a.stepped;
-        return match stepped {
-            Stepped::Ran { running } => {
-                put_whole(track, w);
-                put_flag(running, out)
-            }
-            Stepped::Refused(refusal) => refusal.number(),
-        };
-    }
-    UNKNOWN_WORD
 }
 
 // The value at each time goes into the front of out. filled: how many were written, and how many of them

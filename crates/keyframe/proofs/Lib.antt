@@ -4,4 +4,5 @@ pub mod Kept
 mod Moves
 pub mod Promises
 pub mod Records
+pub mod Ticks
 pub mod Unchanged

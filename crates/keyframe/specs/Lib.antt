@@ -4,5 +4,6 @@ pub mod Playback
 pub mod Sampling
 pub mod Batch
 pub mod Stepping
+pub mod Clock
 pub mod Promises
 pub mod Values

@@ -2,6 +2,7 @@
 ghost use mathlib.Core.Path.{_≡_};
 ghost use Prim.Native.Nat.{_≤_};
 ghost use Rattle.keyframe.specs.Playback.{bounceOf, phaseOf, activeOf, activeTimeOf, durationIn, playbackOf, playbackIn, playbackProgress, progressOf, doneOf, completeOf};
+use crate::clock::active_at;
 use crate::limits::end_of;
 use crate::limits::last_time;
 use crate::types::Completion;
@@ -24,7 +25,7 @@ fn bounce(cycle: f32, base: f32) -> f32
 }
 
 // The time within a pass that takes `base` seconds.
-fn phase(looping: Loop, complete: bool, elapsed: f32, base: f32) -> f32
+pub fn phase(looping: Loop, complete: bool, elapsed: f32, base: f32) -> f32
     ensures { λ r. ⌜ r ≡ phaseOf looping complete elapsed base ⌝ }
 {
     match looping {
@@ -45,15 +46,11 @@ pub fn active(track: Track) -> f32
     requires { ⌜ track .count ≤ 64 ⌝ }
     ensures { λ r. ⌜ r ≡ activeOf track ⌝ }
 {
-    let base = last_time(track);
-    if base == 0.0 {
-        return 0.0;
-    }
     let looping = track.looping;
-    phase(looping, track.complete, track.elapsed, base)
+    active_at(looping, track.complete, track.elapsed, last_time(track))
 }
 
-fn playback(end: End, base: f32) -> f32
+pub fn playback(end: End, base: f32) -> f32
     ensures { λ r. ⌜ r ≡ playbackOf end base ⌝ }
 {
     match end {

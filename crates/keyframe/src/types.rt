@@ -20,6 +20,18 @@ pub enum End {
     Never,
 }
 
+// What moves in a track.
+pub struct Clock {
+    pub elapsed: f32,
+    pub loop_count: u32,
+    pub complete: bool,
+}
+
+pub enum Ticked {
+    Ran { clock: Clock, running: bool },
+    Refused(Refusal),
+}
+
 pub enum Outcome {
     Done,
     Refused(Refusal),

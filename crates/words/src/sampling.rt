@@ -28,7 +28,7 @@ fn is_plain(kind: u32) -> bool
 }
 
 // Whether a frame may hold it. Most kinds are plain, and then no easing is built.
-fn easing_fits(w: LaxEasing) -> bool
+pub fn easing_fits(w: LaxEasing) -> bool
     ensures { λ r. ⌜ r ≡ easingFits w ⌝ }
 {
     if is_plain(w.kind) {
@@ -40,7 +40,7 @@ fn easing_fits(w: LaxEasing) -> bool
     }
 }
 
-fn eased(w: LaxEasing, p: f32) -> Found
+pub fn eased(w: LaxEasing, p: f32) -> Found
     ensures { λ r. ⌜ r ≡ easedOf (easingIn (easingFrom w)) p ⌝ }
 {
     match easing_of(w) {

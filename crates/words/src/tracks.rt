@@ -78,7 +78,7 @@ pub fn is_known(w: LaxTrack) -> bool
     w.looping.mode < 5
 }
 
-fn frame_of(w: LaxKeyframe) -> Keyframe
+pub fn frame_of(w: LaxKeyframe) -> Keyframe
     ensures { λ r. ⌜ r ≡ frameFrom w ⌝ }
 {
     match easing_of(w.easing) {

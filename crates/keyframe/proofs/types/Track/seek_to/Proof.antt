@@ -1,11 +1,14 @@
 -- `seek_to` meets its contract, refusal by refusal. Assumes nothing.
 use borrow.Author.Needs.{needs}
-use mathlib.Core.Path.{_≡_, sym, _∙_}
+use mathlib.Core.Path.{_≡_, sym, ap, _∙_}
 use mathlib.Core.Bool.{true}
 use Rattle.math.proofs.Choice.{fails, passes}
-use Rattle.keyframe.specs.Limits.{withinOf}
+use Rattle.math.specs.Range.{clamp01Of}
+use Rattle.keyframe.specs.Limits.{baseOf, endOf, withinOf}
+use Rattle.keyframe.specs.Pushing.{changed}
 use Rattle.keyframe.proofs.Records.{few-frames}
 use Rattle.keyframe.proofs.Moves.{seek-broken, seek-nan, seek-done}
+use Rattle.keyframe.proofs.Ticks.{sought-clock}
 use Rattle.keyframe.proofs.types.Track.seek_to.Statement.{statement}
 use Rattle.keyframe.proofs.types.Track.seek_to.Tie as tie
 
@@ -27,9 +30,12 @@ seek-to-spec =
     let b = c .before .before in
     let a = b .before .before .before .args in
     c .refuse2 .ensures ∙ seek-nan (a .self) (a .progress .0) (within (b .before)) (sym (b .is-nan .ensures) ∙ c .before .if2 .taken))
+    (λ c κs. few-frames _ (within (c .before .before)))
     (λ c κs. search needs)
-    (λ c κs. few-frames _ (within (c .before .before .before)))
+    (λ c κs. search needs)
+    (λ c κs. search needs)
     (λ c.
-    let b = c .before .before .before in
+    let b = c .before .before .before .before .before in
     let a = b .before .before .before .args in
-    rw (c .sought .ensures, c .before .clamp01 .ensures) (seek-done (a .self) (a .progress .0) (within (b .before)) (sym (b .is-nan .ensures) ∙ c .before .before .if2 .left))))
+    rw (c .moved .ensures, c .before .seek .ensures, c .before .before .clamp01 .ensures, c .before .before .before .last-time .ensures)
+    (ap changed (sought-clock (a .self) (endOf (a .self .looping) (baseOf (a .self))) (clamp01Of (a .progress .0))) ∙ seek-done (a .self) (a .progress .0) (within (b .before)) (sym (b .is-nan .ensures) ∙ c .before .before .before .before .if2 .left))))

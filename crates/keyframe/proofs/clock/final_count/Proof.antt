@@ -1,8 +1,8 @@
 -- `final_count` meets its contract: each arm is told its mode. Assumes nothing.
 use borrow.Author.Needs.{needs}
 use Rattle.keyframe.specs.Stepping.{finalOf}
-use Rattle.keyframe.proofs.steps.final_count.Statement.{statement}
-use Rattle.keyframe.proofs.steps.final_count.Tie as tie
+use Rattle.keyframe.proofs.clock.final_count.Statement.{statement}
+use Rattle.keyframe.proofs.clock.final_count.Tie as tie
 
 pub final-count-spec : {M : Type 1} → statement M
 unfolding finalOf

@@ -1,0 +1,204 @@
+-- The ways of the calls of a track: its words do not pass the check, and the number is the check's; or they do, and the answer is the track's. Assumes nothing.
+use Prim.Native.Nat.{ℕ, _<_}
+use mathlib.Core.Path.{_≡_, refl, sym, ap, _∙_}
+use mathlib.Core.Bool.{Bool, true, false, cond}
+use mathlib.Core.List.{List}
+use lib.Ieee.{Float, isNan}
+use borrow.Author.Tests.{lt-ltb, le-ltb}
+use native.Mathlib.Omega.{arith}
+use Rattle.math.specs.Rounded.{zeroF}
+use Rattle.math.specs.Range.{clamp01Of}
+use Rattle.refusal.specs.declared.Refusal.{Refusal}
+use Rattle.refusal.specs.declared.Refusal.the-variants.{RecordBreaksLimit, NoFrames, ProgressIsNan, TrackLimit}
+use Rattle.loop_mode.specs.declared.Loop.{Loop}
+use Rattle.easing.specs.declared.answers.Eased.the-variants as eased
+use Rattle.frames.specs.Sampling.{sampleOf}
+use Rattle.keyframe.specs.declared.types.Clock.{Clock}
+use Rattle.keyframe.specs.declared.types.Ticked.{Ticked}
+use Rattle.keyframe.specs.declared.types.Ticked.the-variants as ticked
+use Rattle.keyframe.specs.declared.types.Track.{Track}
+use Rattle.keyframe.specs.Clock.{clockIn, clockOf, seekOf, tickOf, tickedIn, withClock}
+use Rattle.keyframe.specs.Limits.{baseOf, endOf, framesIn, modeFits, withinOf}
+use Rattle.keyframe.specs.Playback.{activeOf, activeTimeOf, completeOf, doneOf, durationIn, playbackIn, playbackOf, playbackProgress, progressOf}
+use Rattle.keyframe.specs.Pushing.{loopingOf}
+use Rattle.keyframe.specs.Sampling.{valueAtOf}
+use Rattle.keyframe.specs.Stepping.{resetOf, seekToOf, updateOf}
+use Rattle.keyframe.proofs.Ticks.{sought-clock, update-ticked}
+use Rattle.words.specs.declared.modes.LoopRead.the-variants as mode
+use Rattle.words.specs.Lent.{wordAt, loopAt, trackIn, clockInto}
+use Rattle.words.specs.Modes.{loopFrom, flagWord}
+use Rattle.words.specs.Tracks.{knownTrack, trackFrom}
+use Rattle.track_words.specs.Checking.{checkOf}
+use Rattle.track_words.specs.Reading.{clockWords, trackOf}
+use Rattle.track_words.proofs.Checked.{passed-known, passed-within}
+use Rattle.capi.specs.Answers.{Answer, accepted, refused, foundWords, foundIn, secondsIn, progressIn, flagIn}
+use Rattle.capi.specs.Tracks.{onTrack, loopInto, looped, laxTrackLooping, laxTrackValueAt, laxTrackValue, laxTrackActiveTime, laxTrackDuration, laxTrackPlaybackDuration, laxTrackProgress, completionIn, laxTrackIsComplete, movedIn, laxTrackReset, laxTrackSeekTo, TrackStepping, steppedIn, laxTrackUpdate}
+
+abbrev pub answered : {A : Type 0} → ℕ → A → Answer A
+answered n a = record { number = n; left = a }
+
+-- the number, and what is left
+pub both : {A : Type 0} (n : ℕ) (a : A) (x : Answer A) → answered n a ≡ x → (n ≡ x .number) × (a ≡ x .left)
+both n a x e = (ap (λ (y : Answer _). y .number) e, ap (λ (y : Answer _). y .left) e)
+
+abbrev pub stepping : List ℕ → ℕ → TrackStepping
+stepping words running = record { words = words; running = running }
+
+pub three : (n : ℕ) (words : List ℕ) (running : ℕ) (x : Answer TrackStepping) → answered n (stepping words running) ≡ x → (n ≡ x .number) × ((words ≡ x .left .words) × (running ≡ x .left .running))
+three n words running x e = (ap (λ (y : Answer TrackStepping). y .number) e, (ap (λ (y : Answer TrackStepping). y .left .words) e, ap (λ (y : Answer TrackStepping). y .left .running) e))
+
+-- words that do not pass
+module _ (words : List ℕ) (n : ℕ) (number : n ≡ checkOf words) (some : n ≡ 0 → ⊥) where
+  stopped : {A : Type 0} (came : A) (answer : Track → Answer A) → ((t : Track) → withinOf t ≡ false → answer t ≡ refused came RecordBreaksLimit) → answered n came ≡ onTrack words came answer
+  unfolding checkOf
+  stopped came answer breaks = go (knownTrack (trackIn words)) (withinOf (trackOf words)) refl number
+    where
+      go : (k i : Bool) → withinOf (trackOf words) ≡ i → n ≡ cond k (cond i 0 4) 100 → answered n came ≡ cond k (answer (trackOf words)) (answered 100 came)
+      go true true e h = absurd (some h)
+      go true false e h = rw h (sym (breaks (trackOf words) e))
+      go false i e h = rw h refl
+
+  pub stopped-value : (secs : Float) (out : List ℕ) → answered n out ≡ laxTrackValueAt words secs out
+  unfolding laxTrackValueAt foundIn valueAtOf
+  stopped-value secs out = stopped out (λ t. foundIn out (valueAtOf t secs)) (λ t e. rw e refl)
+
+  pub stopped-now : (out : List ℕ) → answered n out ≡ laxTrackValue words out
+  unfolding laxTrackValue foundIn valueAtOf
+  stopped-now out = stopped out (λ t. foundIn out (valueAtOf t (activeOf t))) (λ t e. rw e refl)
+
+  pub stopped-active : (out : Float) → answered n out ≡ laxTrackActiveTime words out
+  unfolding laxTrackActiveTime secondsIn activeTimeOf
+  stopped-active out = stopped out (λ t. secondsIn out (activeTimeOf t)) (λ t e. rw e refl)
+
+  pub stopped-duration : (out : Float) → answered n out ≡ laxTrackDuration words out
+  unfolding laxTrackDuration secondsIn durationIn
+  stopped-duration out = stopped out (λ t. secondsIn out (durationIn t)) (λ t e. rw e refl)
+
+  pub stopped-playback : (out : Float) → answered n out ≡ laxTrackPlaybackDuration words out
+  unfolding laxTrackPlaybackDuration secondsIn playbackIn
+  stopped-playback out = stopped out (λ t. secondsIn out (playbackIn t)) (λ t e. rw e refl)
+
+  pub stopped-progress : (out : Float) → answered n out ≡ laxTrackProgress words out
+  unfolding laxTrackProgress progressIn progressOf
+  stopped-progress out = stopped out (λ t. progressIn out (progressOf t)) (λ t e. rw e refl)
+
+  pub stopped-complete : (out : ℕ) → answered n out ≡ laxTrackIsComplete words out
+  unfolding laxTrackIsComplete completionIn completeOf
+  stopped-complete out = stopped out (λ t. completionIn out (completeOf t)) (λ t e. rw e refl)
+
+  pub stopped-reset : answered n words ≡ laxTrackReset words
+  unfolding laxTrackReset movedIn resetOf
+  stopped-reset = stopped words (λ t. movedIn words (resetOf t)) (λ t e. rw e refl)
+
+  pub stopped-seek : (p : Float) → answered n words ≡ laxTrackSeekTo words p
+  unfolding laxTrackSeekTo movedIn seekToOf
+  stopped-seek p = stopped words (λ t. movedIn words (seekToOf t p)) (λ t e. rw e refl)
+
+  pub stopped-update : (step : Float) (out : ℕ) → answered n (stepping words out) ≡ laxTrackUpdate words step out
+  unfolding laxTrackUpdate steppedIn updateOf
+  stopped-update step out = stopped (stepping words out) (λ t. steppedIn (stepping words out) (updateOf t step)) (λ t e. rw e refl)
+
+  pub stopped-looping : (m : List ℕ) (l : Loop) → loopFrom (loopAt m 0) ≡ mode.Known l → answered n words ≡ laxTrackLooping words m
+  unfolding laxTrackLooping loopingOf
+  stopped-looping m l k = rw k (stopped words (looped words m (mode.Known l)) (λ t e. rw e refl))
+
+-- words that pass
+module _ (words : List ℕ) (fine : checkOf words ≡ 0) where
+  within : withinOf (trackOf words) ≡ true
+  within = passed-within words fine
+
+  went : {A : Type 0} (came : A) (answer : Track → Answer A) → onTrack words came answer ≡ answer (trackOf words)
+  went came answer = rw (passed-known words fine) refl
+
+  module _ (secs : Float) (out : List ℕ) where
+    pub value-none : wordAt words 512 ≡ 0 → refused out NoFrames ≡ laxTrackValueAt words secs out
+    unfolding laxTrackValueAt foundIn valueAtOf trackFrom trackIn
+    value-none h = sym (went out (λ t. foundIn out (valueAtOf t secs)) ∙ rw (within, le-ltb 0 (wordAt words 512) (omega (arith, h))) refl)
+
+    pub value-some : 0 < wordAt words 512 → accepted (foundWords (sampleOf (framesIn (trackOf words)) secs)) ≡ laxTrackValueAt words secs out
+    unfolding laxTrackValueAt foundIn valueAtOf trackFrom trackIn
+    value-some h = sym (went out (λ t. foundIn out (valueAtOf t secs)) ∙ rw (within, lt-ltb 0 (wordAt words 512) h) refl)
+
+  module _ (out : List ℕ) where
+    pub now-is : laxTrackValueAt words (activeOf (trackOf words)) out ≡ laxTrackValue words out
+    unfolding laxTrackValueAt laxTrackValue
+    now-is = went out (λ t. foundIn out (valueAtOf t (activeOf (trackOf words)))) ∙ sym (went out (λ t. foundIn out (valueAtOf t (activeOf t))))
+
+  module _ (out : Float) where
+    pub active-is : accepted (activeOf (trackOf words)) ≡ laxTrackActiveTime words out
+    unfolding laxTrackActiveTime secondsIn activeTimeOf
+    active-is = sym (went out (λ t. secondsIn out (activeTimeOf t)) ∙ rw within refl)
+
+    pub duration-is : accepted (baseOf (trackOf words)) ≡ laxTrackDuration words out
+    unfolding laxTrackDuration secondsIn durationIn
+    duration-is = sym (went out (λ t. secondsIn out (durationIn t)) ∙ rw within refl)
+
+    pub playback-is : accepted (playbackOf (endOf (trackOf words .looping) (baseOf (trackOf words))) (baseOf (trackOf words))) ≡ laxTrackPlaybackDuration words out
+    unfolding laxTrackPlaybackDuration secondsIn playbackIn
+    playback-is = sym (went out (λ t. secondsIn out (playbackIn t)) ∙ rw within refl)
+
+    pub progress-is : accepted (playbackProgress (endOf (trackOf words .looping) (baseOf (trackOf words))) (trackOf words)) ≡ laxTrackProgress words out
+    unfolding laxTrackProgress progressIn progressOf
+    progress-is = sym (went out (λ t. progressIn out (progressOf t)) ∙ rw within refl)
+
+  pub complete-is : (out : ℕ) → flagIn (doneOf (trackOf words)) ≡ laxTrackIsComplete words out
+  unfolding laxTrackIsComplete completionIn completeOf
+  complete-is out = sym (went out (λ t. completionIn out (completeOf t)) ∙ rw within refl)
+
+  -- a clock in its places
+  stored : (c : Clock) → clockWords words c ≡ clockInto words (withClock (trackOf words) c)
+  unfolding clockWords clockInto
+  stored c = refl
+
+  pub reset-is : accepted (clockWords words (clockOf zeroF 0 false)) ≡ laxTrackReset words
+  unfolding laxTrackReset movedIn resetOf
+  reset-is = ap accepted (stored (clockOf zeroF 0 false)) ∙ sym (went words (λ t. movedIn words (resetOf t)) ∙ rw within refl)
+
+  module _ (p : Float) where
+    pub seek-nan : isNan p ≡ true → refused words ProgressIsNan ≡ laxTrackSeekTo words p
+    unfolding laxTrackSeekTo movedIn seekToOf
+    seek-nan h = sym (went words (λ t. movedIn words (seekToOf t p)) ∙ rw (within, h) refl)
+
+    pub seek-is : isNan p ≡ false → accepted (clockWords words (seekOf (endOf (trackOf words .looping) (baseOf (trackOf words))) (baseOf (trackOf words)) (clamp01Of p))) ≡ laxTrackSeekTo words p
+    unfolding laxTrackSeekTo movedIn seekToOf
+    seek-is h =
+        let t = trackOf words in
+        ap accepted (stored (seekOf (endOf (t .looping) (baseOf t)) (baseOf t) (clamp01Of p)) ∙ ap (clockInto words) (sought-clock t (endOf (t .looping) (baseOf t)) (clamp01Of p)))
+        ∙ sym (went words (λ t. movedIn words (seekToOf t p)) ∙ rw (within, h) refl)
+
+  -- a step, by what the clock makes of it
+  module _ (step : Float) (out : ℕ) where
+    abbrev ticks : Ticked
+    ticks = tickOf (trackOf words .count) (baseOf (trackOf words)) (trackOf words .looping) (clockIn (trackOf words)) step
+
+    by-tick : (k : Ticked) → k ≡ tickOf (trackOf words .count) (baseOf (trackOf words)) (trackOf words .looping) (clockIn (trackOf words)) step → steppedIn (stepping words out) (tickedIn (trackOf words) k) ≡ laxTrackUpdate words step out
+    unfolding laxTrackUpdate
+    by-tick k e =
+        ap (λ (y : Ticked). steppedIn (stepping words out) (tickedIn (trackOf words) y)) e
+        ∙ (ap (steppedIn (stepping words out)) (update-ticked (trackOf words) step within) ∙ sym (went (stepping words out) (λ t. steppedIn (stepping words out) (updateOf t step))))
+
+    pub update-is : (c : Clock) (running : Bool) → ticked.Ran c running ≡ tickOf (trackOf words .count) (baseOf (trackOf words)) (trackOf words .looping) (clockIn (trackOf words)) step
+        → accepted (stepping (clockWords words c) (flagWord running)) ≡ laxTrackUpdate words step out
+    unfolding steppedIn
+    update-is c running e = ap (λ (ws : List ℕ). accepted (stepping ws (flagWord running))) (stored c) ∙ by-tick (ticked.Ran c running) e
+
+    pub update-not : (r : Refusal) → ticked.Refused r ≡ tickOf (trackOf words .count) (baseOf (trackOf words)) (trackOf words .looping) (clockIn (trackOf words)) step → refused (stepping words out) r ≡ laxTrackUpdate words step out
+    unfolding steppedIn
+    update-not r e = by-tick (ticked.Refused r) e
+
+  module _ (m : List ℕ) (l : Loop) (known : loopFrom (loopAt m 0) ≡ mode.Known l) where
+    pub looping-limit : modeFits l (baseOf (trackOf words)) ≡ false → refused words TrackLimit ≡ laxTrackLooping words m
+    unfolding laxTrackLooping loopingOf
+    looping-limit h = sym (rw known (went words (looped words m (mode.Known l)) ∙ rw (within, h) refl))
+
+    pub looping-is : modeFits l (baseOf (trackOf words)) ≡ true → accepted (loopInto words m) ≡ laxTrackLooping words m
+    unfolding laxTrackLooping loopingOf
+    looping-is h = sym (rw known (went words (looped words m (mode.Known l)) ∙ rw (within, h) refl))
+
+pub looping-unknown : (words m : List ℕ) → loopFrom (loopAt m 0) ≡ mode.Unknown → answered 100 words ≡ laxTrackLooping words m
+unfolding laxTrackLooping
+looping-unknown words m h = rw h (go (knownTrack (trackIn words)))
+  where
+    go : (k : Bool) → answered 100 words ≡ cond k (answered 100 words) (answered 100 words)
+    go true = refl
+    go false = refl

@@ -1,0 +1,4 @@
+-- Laws that the functions' proofs cite.
+pub mod Checked
+pub mod Placed
+pub mod Sound

@@ -1,0 +1,59 @@
+// The value of frames at a time.
+ghost use mathlib.Core.Path.{_≡_};
+ghost use mathlib.Core.Bool.{true};
+ghost use Prim.Native.Nat.{_+_, _-_, _<_, _≤_};
+ghost use lib.ListN.{take};
+ghost use Rattle.frames.specs.Inner.{counted, timesOf};
+ghost use Rattle.frames.specs.Limits.{framesWithin};
+ghost use Rattle.frames.specs.Sampling.{betweenOf, sampleOf};
+ghost use Rattle.track_words.specs.Reading.{frameIn, framesOf};
+use crate::reading::easing_at;
+use crate::reading::float_at;
+use bezier::Found;
+
+// How many of the first n times, the first and the last left out, are at or before t.
+fn interval(w: &[u32; 518], n: usize, t: f32) -> usize
+    requires { ⌜ (1 ≤ n) × (n ≤ 64) ⌝ }
+    ensures { λ r. ⌜ (r < 63) × (r ≡ counted (timesOf (framesOf (now (w .entry)))) t (n - 1)) ⌝ }
+{
+    let last = n - 1;
+    let mut count: u32 = 0;
+    let mut i: usize = 1;
+    while i < last {
+        count += (float_at(w, 8 * i) <= t) as u32;
+        i += 1;
+    }
+    count as usize
+}
+
+fn between(w: &[u32; 518], low: usize, t: f32) -> Found
+    requires { ⌜ low < 63 ⌝ }
+    ensures { λ r. ⌜ r ≡ betweenOf (frameIn (now (w .entry)) low) (frameIn (now (w .entry)) (low + 1)) t ⌝ }
+{
+    let at = 8 * low;
+    let next = 8 * (low + 1);
+    let p = frames::along(float_at(w, at), float_at(w, next), t);
+    let found = words::eased(easing_at(w, at + 2), p);
+    found.with_value(math::blend(
+        float_at(w, at + 1),
+        float_at(w, next + 1),
+        found.value,
+    ))
+}
+
+pub fn sample(w: &[u32; 518], n: usize, secs: f32) -> Found
+    requires { ⌜ (framesWithin (take n (framesOf (now w))) ≡ true) × (1 ≤ n) × (n ≤ 64) ⌝ }
+    ensures { λ r. ⌜ r ≡ sampleOf (take n (framesOf (now (w .entry)))) secs ⌝ }
+{
+    let at = 8 * (n - 1);
+    let last = float_at(w, at);
+    let t = frames::cut(math::max_zero(secs), last);
+    if t <= float_at(w, 0) {
+        return Found::plain(float_at(w, 1));
+    }
+    if last <= t {
+        return Found::plain(float_at(w, at + 1));
+    }
+    let low = interval(w, n, t);
+    between(w, low, t)
+}
