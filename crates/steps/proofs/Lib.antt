@@ -1,3 +1,4 @@
 pub mod Fronts
 mod Courses
+mod Onward
 mod Taking
