@@ -1,4 +1,3 @@
 mod Quick
 mod Runs
--- Laws that the functions' proofs cite.
 pub mod Tracked

@@ -1,5 +1,4 @@
 pub mod Fitting
-mod Known
 pub mod Known
 pub mod Quick
 pub mod ReadBack
