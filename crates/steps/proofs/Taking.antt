@@ -22,7 +22,6 @@ use Rattle.tween.specs.Update.{updateOf}
 use Rattle.tween.specs.Inner.{Glides, placed}
 use Rattle.tween.proofs.Glides.{goes-to}
 use Rattle.tween.proofs.KeptByUpdate.{update-within}
-use Rattle.tween.proofs.Valued.{value-answers}
 use Rattle.steps.specs.declared.take.Taken.{Taken}
 use Rattle.steps.specs.declared.take.Taken.the-variants.{Took, Stops}
 use Rattle.steps.specs.Course.{valued, taken, stepOf}
@@ -76,11 +75,3 @@ module _ (t : Tween) (x w : Float) (p : Folding) (h : Glides t x (To w p)) where
   pub glide-took : (f : Found) → valueOf (placed t w p) ≡ eased.Value f → stepOf t x ≡ Took (placed t w p) f (p .folds)
   unfolding stepOf
   glide-took f e = rw (goes-to t x w p h, e) refl
-
--- a tween within its limits has a value
-pub always-value : (t : Tween) → withinOf t ≡ true → (r : Refusal) → valueOf t ≡ eased.Refused r → ⊥
-always-value t h r e = subst IsValue (sym (value-answers t (subst⁻¹ T h tt) .1) ∙ e) tt
-  where
-    IsValue : Eased → Type 0
-    IsValue (eased.Value f) = Unit {0}
-    IsValue (eased.Refused r) = ⊥
