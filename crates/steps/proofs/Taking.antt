@@ -3,11 +3,10 @@ use Prim.Native.Nat.{ℕ, _≤_, _<_}
 use mathlib.Core.Path.{_≡_, refl, sym, ap, _∙_, subst, subst⁻¹}
 use mathlib.Core.Bool.{Bool, true, false, _&&_, and-comm}
 use borrow.Author.Tests.{lt-leb}
-use lib.Dec.{T, le→leb}
+use lib.Dec.{le→leb}
 use lib.Ieee.{Float}
 use lib.Ieee.Bits.{is-true}
 use Rattle.bezier.specs.declared.types.Found.{Found}
-use Rattle.refusal.specs.declared.Refusal.{Refusal}
 use Rattle.refusal.specs.declared.Refusal.the-variants.{RecordBreaksLimit}
 use Rattle.easing.specs.declared.answers.Eased.{Eased}
 use Rattle.easing.specs.declared.answers.Eased.the-variants as eased

@@ -20,7 +20,14 @@ pub struct Stretch {
 
 // From step `from` on, while `glide` answers: no step of another kind is tried here, so that what the
 // common step does not change stays in registers.
-pub fn glide_on(first: Tween, from: usize, before: usize, steps: &[f32], values: &mut [f32], folds: &mut [u32]) -> Stretch
+pub fn glide_on(
+    first: Tween,
+    from: usize,
+    before: usize,
+    steps: &[f32],
+    values: &mut [f32],
+    folds: &mut [u32],
+) -> Stretch
     requires { ⌜ (withinOf first ≡ true) × (length (now steps) ≤ length (now values)) × (length (now steps) ≤ length (now folds)) × (from ≤ length (now steps)) × (before ≤ from) ⌝ }
     ensures { λ r. ⌜ ReachesOn (now (steps .entry)) (now (values .entry)) (now (folds .entry)) first before from (now (values .exit)) (now (folds .exit)) r ⌝ }
 {

@@ -4,12 +4,11 @@ ghost use mathlib.Core.Bool.{true};
 ghost use Rattle.tween.specs.Limits.{withinOf};
 ghost use Rattle.steps.specs.Course.{stepOf};
 use bezier::Found;
-use easing::Eased;
 use refusal::Refusal;
 use tween::Tween;
 use tween::Updated;
 use tween::step_on;
-use tween::value_in;
+use tween::value_by;
 
 pub enum Taken {
     // The tween behind the step, its value with the search behind it, and the folds.
@@ -32,10 +31,8 @@ pub fn take(t: Tween, step: f32) -> Taken
             if tween.loop_count > 16777216 {
                 return Taken::Stops(Refusal::RecordBreaksLimit);
             }
-            match value_in(tween) {
-                Eased::Value(found) => Taken::Took(tween, found, folds),
-                Eased::Refused(refusal) => Taken::Stops(refusal),
-            }
+            let easing = tween.easing;
+            Taken::Took(tween, value_by(easing, tween), folds)
         }
         Updated::Refused { tween: _, refusal } => Taken::Stops(refusal),
     }
