@@ -20,9 +20,9 @@ use Rattle.tween.specs.Limits.{withinOf}
 use Rattle.steps.specs.declared.take.Taken.the-variants.{Took, Stops}
 use Rattle.steps.specs.declared.run.Outcome.{Outcome}
 use Rattle.steps.specs.declared.run.Outcome.the-variants.{Finished, Refused}
-use Rattle.steps.specs.Inner.{Written, behind, Reached}
+use Rattle.steps.specs.Inner.{Reached}
 use Rattle.steps.proofs.Fronts.{more}
-use Rattle.steps.specs.Course.{stepOf, Course, ended, stopped, courseOf, runOf, answerOf, over}
+use Rattle.steps.specs.Course.{stepOf, ended, stopped, courseOf, runOf, answerOf, over}
 
 -- one value counted on the way, or with those behind it
 one-more : (b : Bool) (n m : ℕ) → n + cond b (suc m) m ≡ n + boolByte b + m

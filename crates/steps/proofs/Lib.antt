@@ -1,5 +1,4 @@
 pub mod Fronts
 mod Courses
 mod Onward
-mod Straight
 mod Taking

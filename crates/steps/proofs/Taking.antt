@@ -3,11 +3,10 @@ use Prim.Native.Nat.{ℕ, _≤_, _<_}
 use mathlib.Core.Path.{_≡_, refl, sym, ap, _∙_, subst, subst⁻¹}
 use mathlib.Core.Bool.{Bool, true, false, _&&_, and-comm}
 use borrow.Author.Tests.{lt-leb}
-use lib.Dec.{T, le→leb}
+use lib.Dec.{le→leb}
 use lib.Ieee.{Float}
 use lib.Ieee.Bits.{is-true}
 use Rattle.bezier.specs.declared.types.Found.{Found}
-use Rattle.refusal.specs.declared.Refusal.{Refusal}
 use Rattle.refusal.specs.declared.Refusal.the-variants.{RecordBreaksLimit}
 use Rattle.easing.specs.declared.answers.Eased.{Eased}
 use Rattle.easing.specs.declared.answers.Eased.the-variants as eased
@@ -22,7 +21,6 @@ use Rattle.tween.specs.Update.{updateOf}
 use Rattle.tween.specs.Inner.{Glides, placed}
 use Rattle.tween.proofs.Glides.{goes-to}
 use Rattle.tween.proofs.KeptByUpdate.{update-within}
-use Rattle.tween.proofs.Valued.{value-answers}
 use Rattle.steps.specs.declared.take.Taken.{Taken}
 use Rattle.steps.specs.declared.take.Taken.the-variants.{Took, Stops}
 use Rattle.steps.specs.Course.{valued, taken, stepOf}
@@ -76,11 +74,3 @@ module _ (t : Tween) (x w : Float) (p : Folding) (h : Glides t x (To w p)) where
   pub glide-took : (f : Found) → valueOf (placed t w p) ≡ eased.Value f → stepOf t x ≡ Took (placed t w p) f (p .folds)
   unfolding stepOf
   glide-took f e = rw (goes-to t x w p h, e) refl
-
--- a tween within its limits has a value
-pub always-value : (t : Tween) → withinOf t ≡ true → (r : Refusal) → valueOf t ≡ eased.Refused r → ⊥
-always-value t h r e = subst IsValue (sym (value-answers t (subst⁻¹ T h tt) .1) ∙ e) tt
-  where
-    IsValue : Eased → Type 0
-    IsValue (eased.Value f) = Unit {0}
-    IsValue (eased.Refused r) = ⊥

@@ -1,20 +1,14 @@
 -- What the inner steps of a run promise. They are the code's: document 01 has none of them.
 use Prim.Native.Nat.{ℕ, _+_, _≤_, _<_}
 use mathlib.Core.Path.{_≡_}
-use mathlib.Core.Bool.{true, cond}
+use mathlib.Core.Bool.{true}
 use mathlib.Core.List.{List, _++_}
 use lib.ListN.{length, drop}
-use lib.Ieee.{Float, eq}
-use Rattle.math.specs.Rounded.{zeroF}
+use lib.Ieee.{Float}
 use Rattle.tween.specs.declared.record.Tween.{Tween}
 use Rattle.tween.specs.Limits.{withinOf}
-use Rattle.tween.specs.Calls.{progressIn, blendAt}
 use Rattle.steps.specs.declared.gliding.Stretch.{Stretch}
 use Rattle.steps.specs.Course.{Course, courseOf}
-
--- the value of a tween whose easing is Linear
-abbrev pub straightOf : Tween → Float
-straightOf t = cond (eq (t .duration) zeroF) (t .end) (blendAt t (progressIn t))
 
 -- a front of i places is written, and behind it a list is as it was
 abbrev pub Written : {A : Type 0} → List A → ℕ → List A → List A → Type 0

@@ -2,17 +2,13 @@
 ghost use mathlib.Core.Path.{_≡_};
 ghost use mathlib.Core.Bool.{true};
 ghost use Rattle.tween.specs.Limits.{withinOf};
-ghost use Rattle.tween.specs.Calls.{valueOf};
 ghost use Rattle.steps.specs.Course.{stepOf};
-ghost use Rattle.steps.specs.Inner.{straightOf};
 use bezier::Found;
-use easing::Eased;
-use easing::Easing;
 use refusal::Refusal;
 use tween::Tween;
 use tween::Updated;
 use tween::step_on;
-use tween::value_in;
+use tween::value_by;
 
 pub enum Taken {
     // The tween behind the step, its value with the search behind it, and the folds.
@@ -35,40 +31,9 @@ pub fn take(t: Tween, step: f32) -> Taken
             if tween.loop_count > 16777216 {
                 return Taken::Stops(Refusal::RecordBreaksLimit);
             }
-            match value_in(tween) {
-                Eased::Value(found) => Taken::Took(tween, found, folds),
-                Eased::Refused(refusal) => Taken::Stops(refusal),
-            }
+            let easing = tween.easing;
+            Taken::Took(tween, value_by(easing, tween), folds)
         }
         Updated::Refused { tween: _, refusal } => Taken::Stops(refusal),
-    }
-}
-
-// The value where the easing is Linear.
-fn straight(t: Tween) -> f32
-    ensures { λ r. ⌜ r ≡ straightOf t ⌝ }
-{
-    if t.duration == 0.0 {
-        return t.end;
-    }
-    let c = math::ratio(t.elapsed, t.duration);
-    if t.ping_pong_reverse {
-        return math::blend(t.end, t.start, c);
-    }
-    math::blend(t.start, t.end, c)
-}
-
-// A tween within its limits has a value: the 0 is never answered. Linear needs no call.
-pub fn sure_value(t: Tween) -> Found
-    requires { ⌜ withinOf t ≡ true ⌝ }
-    ensures { λ r. ⌜ valueOf t ≡ Eased.Value r ⌝ }
-{
-    let easing = t.easing;
-    if let Easing::Linear = easing {
-        return Found::plain(straight(t));
-    }
-    match value_in(t) {
-        Eased::Value(found) => found,
-        Eased::Refused(_) => Found::plain(0.0),
     }
 }

@@ -1,3 +1,4 @@
+mod Branches
 pub mod Bounds
 pub mod Examples
 pub mod Glides

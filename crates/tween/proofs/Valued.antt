@@ -32,7 +32,7 @@ abbrev Finite : Eased → Type 0
 Finite a = (f : Found) × (a ≡ Value f) × AtMost 9007199254740992 (f .value)
 
 module _ (t : Tween) (h : T (withinOf t)) where
-  within : withinOf t ≡ true
+  pub within : withinOf t ≡ true
   within = is-true (withinOf t) h
 
   i : Limits t
@@ -44,7 +44,7 @@ module _ (t : Tween) (h : T (withinOf t)) where
       by-test Within (eq d zeroF) oneF (clamp01Of (t .elapsed ⊘ d)) (λ _. one-within)
       (λ z. clamped (t .elapsed ⊘ d) (div-number binary32 (t .elapsed) d (at-most-finite 16777216 (t .elapsed) (i .elapsed-most)) (at-most-finite 16777216 d (i .duration-most)) z))
 
-  eased : (f : Found) × (applyOf (t .easing) (progressIn t) ≡ Value f)
+  pub eased : (f : Found) × (applyOf (t .easing) (progressIn t) ≡ Value f)
   eased = fits-answers (t .easing) (progressIn t) (i .easing-fits) (le-numbers zeroF (progressIn t) (progress-within .0) .1)
 
   blended : Finite (blendIn t (applyOf (t .easing) (progressIn t)))

@@ -1,5 +1,6 @@
 // A ramp from one value to another, and its clock.
 mod answers;
+mod beside;
 mod change;
 mod limits;
 mod read;
@@ -10,6 +11,7 @@ mod update;
 pub use answers::Changed;
 pub use answers::Snapped;
 pub use answers::Updated;
+pub use beside::value_by;
 pub use limits::within;
 pub use read::value_in;
 pub use record::Tween;
