@@ -42,7 +42,7 @@ pub record Fit (ws : List ℕ) : Type 0 where
   pub waited : wordAt ws 14 ≤ 0x4c00_0000
   pub count : wordAt ws 16 ≤ 16777216
   pub flag : wordAt ws 17 ≤ 1
-  pub state : wordAt ws 15 < 4
+  pub state : wordAt ws 15 ≤ 3
   pub idle : ltb 0 (wordAt ws 15) || ltb (wordAt ws 14) (wordAt ws 9) ≡ true
 
 six : (a b c d e f : Bool) → a && b && c && d && e && f ≡ true → (a ≡ true) × (b ≡ true) × (c ≡ true) × (d ≡ true) × (e ≡ true) × (f ≡ true)
@@ -58,7 +58,7 @@ pub parts : (ws : List ℕ) → fitsOf ws ≡ true → Fit ws
 unfolding settingsFit clockFit
 parts ws h =
     let both = and-both (settingsFit ws) (clockFit ws) h in
-    let c = six (leb (wordAt ws 13) (wordAt ws 2)) (leb (wordAt ws 14) 0x4c00_0000) (leb (wordAt ws 16) 16777216) (leb (wordAt ws 17) 1) (ltb (wordAt ws 15) 4) (ltb 0 (wordAt ws 15) || ltb (wordAt ws 14) (wordAt ws 9)) (both .1) in
+    let c = six (leb (wordAt ws 13) (wordAt ws 2)) (leb (wordAt ws 14) 0x4c00_0000) (leb (wordAt ws 16) 16777216) (leb (wordAt ws 17) 1) (leb (wordAt ws 15) 3) (ltb 0 (wordAt ws 15) || ltb (wordAt ws 14) (wordAt ws 9)) (both .1) in
     let k = holdsOf (wordAt ws 3) (floatAt ws 4) (floatAt ws 5) (floatAt ws 6) (floatAt ws 7) in
     let front = k && ltb (wordAt ws 11) 5 && leb (wordAt ws 12) 65535 && valueWord (wordAt ws 0) && valueWord (wordAt ws 1) && leb (wordAt ws 2) 0x4b80_0000 in
     let y = and-both (front && leb (wordAt ws 9) 0x4b80_0000) (leb (wordAt ws 10) 0x4480_0000) (both .0) in
@@ -81,7 +81,7 @@ parts ws h =
       waited = leb-true _ _ (c .1);
       count = leb-true _ _ (c .2);
       flag = leb-true _ _ (c .3);
-      state = ltb-true _ _ (c .4);
+      state = leb-true _ _ (c .4);
       idle = c .5;
     }
 
@@ -127,7 +127,7 @@ mode-fits (suc (suc (suc zero))) p h l = refl
 mode-fits (suc (suc (suc (suc zero)))) p h l = le-leb p 65535 l
 mode-fits (suc (suc (suc (suc (suc m))))) p h l = absurd (omega (arith, h))
 
-known-state : (n : ℕ) → n < 4 → stateFrom n ≡ state.Known (stateAt n)
+known-state : (n : ℕ) → n ≤ 3 → stateFrom n ≡ state.Known (stateAt n)
 unfolding stateFrom
 known-state zero h = refl
 known-state (suc zero) h = refl

@@ -29,7 +29,7 @@ clockFit ws =
     && leb (wordAt ws 14) 0x4c00_0000
     && leb (wordAt ws 16) 16777216
     && leb (wordAt ws 17) 1
-    && ltb (wordAt ws 15) 4
+    && leb (wordAt ws 15) 3
     && (ltb 0 (wordAt ws 15) || ltb (wordAt ws 14) (wordAt ws 9))
 
 abbrev pub fitsOf : List ℕ → Bool

@@ -28,12 +28,22 @@ fn settings_fit(w: &[u32; 18]) -> bool
 fn clock_fits(w: &[u32; 18]) -> bool
     ensures { λ r. ⌜ r ≡ clockFit (now (w .entry)) ⌝ }
 {
-    (w[13] <= w[2])
-        & (w[14] <= 0x4c00_0000)
-        & (w[16] <= 16777216)
-        & (w[17] <= 1)
-        & (w[15] < 4)
-        & ((0 < w[15]) | (w[14] < w[9]))
+    if w[13] > w[2] {
+        return false;
+    }
+    if w[14] > 0x4c00_0000 {
+        return false;
+    }
+    if w[16] > 16777216 {
+        return false;
+    }
+    if w[17] > 1 {
+        return false;
+    }
+    if w[15] > 3 {
+        return false;
+    }
+    (0 < w[15]) | (w[14] < w[9])
 }
 
 pub fn fits(w: &[u32; 18]) -> bool

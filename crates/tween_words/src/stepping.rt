@@ -11,8 +11,6 @@ ghost use Rattle.tween_words.specs.Fitting.{fitsOf};
 ghost use Rattle.tween_words.specs.Stepping.{turnOf, SlidesTo, StepsTo};
 use crate::fitting::fits;
 use loop_mode::passes;
-use math::bits;
-use math::of_bits;
 use words::flag_word;
 
 // What a fold makes of loop_count and ping_pong_reverse, and whether it is the last.
@@ -22,16 +20,16 @@ pub struct Turn {
     pub done: bool,
 }
 
-// Which words change, and to what.
+// Which words change, and to what pattern.
 pub enum Slid {
     // elapsed.
-    To(f32),
+    To(u32),
     // delay_elapsed.
-    Waits(f32),
+    Waits(u32),
     // None.
     Stays(bool),
     // elapsed, loop_count and ping_pong_reverse, after a fold.
-    Folded { elapsed: f32, count: u32, flag: u32 },
+    Folded { elapsed: u32, count: u32, flag: u32 },
     // elapsed, which comes to the duration, state, loop_count and ping_pong_reverse.
     Ended { count: u32, flag: u32 },
     Unsure,
@@ -90,18 +88,22 @@ fn turned(mode: u32, limit: u32, count: u32, flag: u32) -> Turn
     }
 }
 
+// The patterns of a tween that fits are no NaN's.
 fn run(w: &[u32; 18], secs: f32) -> Slid
     requires { ⌜ (fitsOf (now w) ≡ true) × (wordAt (now w) 15 ≡ 1) × (lt topF secs ≡ false) ⌝ }
     ensures { λ r. ⌜ SlidesTo (now (w .entry)) secs r ⌝ }
 {
-    let duration = of_bits(w[2]);
-    let elapsed = of_bits(w[13]);
-    let e = elapsed + math::max_zero(secs) * of_bits(w[10]);
+    let duration = f32::from_bits(w[2]);
+    let elapsed = f32::from_bits(w[13]);
+    let e = elapsed + math::max_zero(secs) * f32::from_bits(w[10]);
     if e == elapsed {
         return Slid::Unsure;
     }
     if duration == 0.0 {
         return Slid::Unsure;
+    }
+    if e < duration {
+        return Slid::To(f32::to_bits(e));
     }
     if duration <= e {
         let t = turned(w[11], w[12], w[16], w[17]);
@@ -112,29 +114,28 @@ fn run(w: &[u32; 18], secs: f32) -> Slid
             };
         }
         let over = e - duration;
-        if duration <= over {
-            return Slid::Unsure;
+        if over < duration {
+            return Slid::Folded {
+                elapsed: f32::to_bits(over),
+                count: t.count,
+                flag: t.flag,
+            };
         }
-        return Slid::Folded {
-            elapsed: over,
-            count: t.count,
-            flag: t.flag,
-        };
     }
-    Slid::To(e)
+    Slid::Unsure
 }
 
 fn wait(w: &[u32; 18], secs: f32) -> Slid
     requires { ⌜ (fitsOf (now w) ≡ true) × (wordAt (now w) 15 ≡ 0) × (lt topF secs ≡ false) ⌝ }
     ensures { λ r. ⌜ SlidesTo (now (w .entry)) secs r ⌝ }
 {
-    let waited = of_bits(w[14]);
+    let waited = f32::from_bits(w[14]);
     let sum = waited + math::max_zero(secs);
     if sum == waited {
         return Slid::Unsure;
     }
-    if sum < of_bits(w[9]) {
-        return Slid::Waits(sum);
+    if sum < f32::from_bits(w[9]) {
+        return Slid::Waits(f32::to_bits(sum));
     }
     Slid::Unsure
 }
@@ -164,14 +165,14 @@ pub fn step_on(w: &mut [u32; 18], secs: f32) -> Stepped
 {
     match slide(w, secs) {
         Slid::To(e) => {
-            w[13] = bits(e);
+            w[13] = e;
             Stepped::Ran {
                 folds: 0,
                 running: true,
             }
         }
         Slid::Waits(sum) => {
-            w[14] = bits(sum);
+            w[14] = sum;
             Stepped::Ran {
                 folds: 0,
                 running: true,
@@ -183,7 +184,7 @@ pub fn step_on(w: &mut [u32; 18], secs: f32) -> Stepped
             count,
             flag,
         } => {
-            w[13] = bits(elapsed);
+            w[13] = elapsed;
             w[16] = count;
             w[17] = flag;
             Stepped::Ran {
