@@ -20,6 +20,14 @@ pub struct Turn {
     pub done: bool,
 }
 
+impl Turn {
+    fn new(count: u32, flag: u32, done: bool) -> Turn
+        ensures { λ r. ⌜ r ≡ record { count = count; flag = flag; done = done } ⌝ }
+    {
+        Turn { count, flag, done }
+    }
+}
+
 // Which words change, and to what pattern.
 pub enum Slid {
     // elapsed.
@@ -45,47 +53,23 @@ fn turned(mode: u32, limit: u32, count: u32, flag: u32) -> Turn
     ensures { λ r. ⌜ r ≡ turnOf (loopIn (loopFrom (record { mode = mode; passes = limit }))) count flag ⌝ }
 {
     if mode == 2 {
-        return Turn {
-            count,
-            flag,
-            done: false,
-        };
+        return Turn::new(count, flag, false);
     }
     if mode == 3 {
-        return Turn {
-            count,
-            flag: flag_word(flag == 0),
-            done: false,
-        };
+        return Turn::new(count, flag_word(flag == 0), false);
     }
     let n = passes(limit);
     let next = count + 1;
     if mode == 1 {
-        return Turn {
-            count: next,
-            flag,
-            done: n <= next,
-        };
+        return Turn::new(next, flag, n <= next);
     }
     if mode != 4 {
-        return Turn {
-            count,
-            flag,
-            done: true,
-        };
+        return Turn::new(count, flag, true);
     }
     if n <= next {
-        return Turn {
-            count: n,
-            flag: flag_word(n % 2 == 0),
-            done: true,
-        };
+        return Turn::new(n, flag_word(n % 2 == 0), true);
     }
-    Turn {
-        count: next,
-        flag: flag_word(flag == 0),
-        done: false,
-    }
+    Turn::new(next, flag_word(flag == 0), false)
 }
 
 // The patterns of a tween that fits are no NaN's.
@@ -159,6 +143,12 @@ fn slide(w: &[u32; 18], secs: f32) -> Slid
     }
 }
 
+fn ran(folds: u32, running: bool) -> Stepped
+    ensures { λ r. ⌜ r ≡ Stepped.Ran folds running ⌝ }
+{
+    Stepped::Ran { folds, running }
+}
+
 // Unsure: no word is changed.
 pub fn step_on(w: &mut [u32; 18], secs: f32) -> Stepped
     ensures { λ r. ⌜ StepsTo (now (w .entry)) secs (now (w .exit)) r ⌝ }
@@ -166,19 +156,13 @@ pub fn step_on(w: &mut [u32; 18], secs: f32) -> Stepped
     match slide(w, secs) {
         Slid::To(e) => {
             w[13] = e;
-            Stepped::Ran {
-                folds: 0,
-                running: true,
-            }
+            ran(0, true)
         }
         Slid::Waits(sum) => {
             w[14] = sum;
-            Stepped::Ran {
-                folds: 0,
-                running: true,
-            }
+            ran(0, true)
         }
-        Slid::Stays(running) => Stepped::Ran { folds: 0, running },
+        Slid::Stays(running) => ran(0, running),
         Slid::Folded {
             elapsed,
             count,
@@ -187,20 +171,14 @@ pub fn step_on(w: &mut [u32; 18], secs: f32) -> Stepped
             w[13] = elapsed;
             w[16] = count;
             w[17] = flag;
-            Stepped::Ran {
-                folds: 1,
-                running: true,
-            }
+            ran(1, true)
         }
         Slid::Ended { count, flag } => {
             w[13] = w[2];
             w[15] = 3;
             w[16] = count;
             w[17] = flag;
-            Stepped::Ran {
-                folds: 1,
-                running: false,
-            }
+            ran(1, false)
         }
         Slid::Unsure => Stepped::Unsure,
     }
