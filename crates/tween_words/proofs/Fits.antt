@@ -29,7 +29,7 @@ use Rattle.tween_words.specs.Fitting.{valueWord, settingsFit, clockFit, 
 
 pub record Fit (ws : List ℕ) : Type 0 where
   pub easing : Holds (easingAt ws 3)
-  pub mode : wordAt ws 11 < 5
+  pub mode : wordAt ws 11 ≤ 4
   pub passes : wordAt ws 12 ≤ 65535
   pub start-word : wordAt ws 0 ≤ 0xffff_ffff
   pub start : wordAt ws 0 % 0x8000_0000 ≤ 0x4b80_0000
@@ -42,7 +42,7 @@ pub record Fit (ws : List ℕ) : Type 0 where
   pub waited : wordAt ws 14 ≤ 0x4c00_0000
   pub count : wordAt ws 16 ≤ 16777216
   pub flag : wordAt ws 17 ≤ 1
-  pub state : wordAt ws 15 < 4
+  pub state : wordAt ws 15 ≤ 3
   pub idle : ltb 0 (wordAt ws 15) || ltb (wordAt ws 14) (wordAt ws 9) ≡ true
 
 six : (a b c d e f : Bool) → a && b && c && d && e && f ≡ true → (a ≡ true) × (b ≡ true) × (c ≡ true) × (d ≡ true) × (e ≡ true) × (f ≡ true)
@@ -58,31 +58,31 @@ pub parts : (ws : List ℕ) → fitsOf ws ≡ true → Fit ws
 unfolding settingsFit clockFit
 parts ws h =
     let both = and-both (settingsFit ws) (clockFit ws) h in
-    let c = six (leb (wordAt ws 13) (wordAt ws 2)) (leb (wordAt ws 14) 0x4c00_0000) (leb (wordAt ws 16) 16777216) (leb (wordAt ws 17) 1) (ltb (wordAt ws 15) 4) (ltb 0 (wordAt ws 15) || ltb (wordAt ws 14) (wordAt ws 9)) (both .1) in
+    let front = leb (wordAt ws 11) 4 && leb (wordAt ws 12) 65535 && leb (wordAt ws 13) (wordAt ws 2) && leb (wordAt ws 14) 0x4c00_0000 && leb (wordAt ws 16) 16777216 && leb (wordAt ws 17) 1 in
+    let y = and-both (front && leb (wordAt ws 15) 3) (ltb 0 (wordAt ws 15) || ltb (wordAt ws 14) (wordAt ws 9)) (both .1) in
+    let x = and-both front (leb (wordAt ws 15) 3) (y .0) in
+    let c = six (leb (wordAt ws 11) 4) (leb (wordAt ws 12) 65535) (leb (wordAt ws 13) (wordAt ws 2)) (leb (wordAt ws 14) 0x4c00_0000) (leb (wordAt ws 16) 16777216) (leb (wordAt ws 17) 1) (x .0) in
     let k = holdsOf (wordAt ws 3) (floatAt ws 4) (floatAt ws 5) (floatAt ws 6) (floatAt ws 7) in
-    let front = k && ltb (wordAt ws 11) 5 && leb (wordAt ws 12) 65535 && valueWord (wordAt ws 0) && valueWord (wordAt ws 1) && leb (wordAt ws 2) 0x4b80_0000 in
-    let y = and-both (front && leb (wordAt ws 9) 0x4b80_0000) (leb (wordAt ws 10) 0x4480_0000) (both .0) in
-    let x = and-both front (leb (wordAt ws 9) 0x4b80_0000) (y .0) in
-    let s = six k (ltb (wordAt ws 11) 5) (leb (wordAt ws 12) 65535) (valueWord (wordAt ws 0)) (valueWord (wordAt ws 1)) (leb (wordAt ws 2) 0x4b80_0000) (x .0) in
-    let a = and-both (leb (wordAt ws 0) 0xffff_ffff) (leb (wordAt ws 0 % 0x8000_0000) 0x4b80_0000) (s .3) in
-    let b = and-both (leb (wordAt ws 1) 0xffff_ffff) (leb (wordAt ws 1 % 0x8000_0000) 0x4b80_0000) (s .4) in
+    let s = six k (valueWord (wordAt ws 0)) (valueWord (wordAt ws 1)) (leb (wordAt ws 2) 0x4b80_0000) (leb (wordAt ws 9) 0x4b80_0000) (leb (wordAt ws 10) 0x4480_0000) (both .0) in
+    let a = and-both (leb (wordAt ws 0) 0xffff_ffff) (leb (wordAt ws 0 % 0x8000_0000) 0x4b80_0000) (s .1) in
+    let b = and-both (leb (wordAt ws 1) 0xffff_ffff) (leb (wordAt ws 1 % 0x8000_0000) 0x4b80_0000) (s .2) in
     record {
       easing = holds-so (easingAt ws 3) (s .0);
-      mode = ltb-true _ _ (s .1);
-      passes = leb-true _ _ (s .2);
+      mode = leb-true _ _ (c .0);
+      passes = leb-true _ _ (c .1);
       start-word = leb-true _ _ (a .0);
       start = leb-true _ _ (a .1);
       end-word = leb-true _ _ (b .0);
       end = leb-true _ _ (b .1);
-      duration = leb-true _ _ (s .5);
-      delay = leb-true _ _ (x .1);
-      scale = leb-true _ _ (y .1);
-      elapsed = leb-true _ _ (c .0);
-      waited = leb-true _ _ (c .1);
-      count = leb-true _ _ (c .2);
-      flag = leb-true _ _ (c .3);
-      state = ltb-true _ _ (c .4);
-      idle = c .5;
+      duration = leb-true _ _ (s .3);
+      delay = leb-true _ _ (s .4);
+      scale = leb-true _ _ (s .5);
+      elapsed = leb-true _ _ (c .2);
+      waited = leb-true _ _ (c .3);
+      count = leb-true _ _ (c .4);
+      flag = leb-true _ _ (c .5);
+      state = leb-true _ _ (x .1);
+      idle = y .1;
     }
 
 abbrev pub stateAt : ℕ → TweenState
@@ -109,7 +109,7 @@ readIn ws =
       «ping_pong_reverse» = not (eqb (wordAt ws 17) 0);
     }
 
-known-mode : (m p : ℕ) → m < 5 → loopFrom (record { mode = m; passes = p }) ≡ mode.Known (loopIn (loopFrom (record { mode = m; passes = p })))
+known-mode : (m p : ℕ) → m ≤ 4 → loopFrom (record { mode = m; passes = p }) ≡ mode.Known (loopIn (loopFrom (record { mode = m; passes = p })))
 unfolding loopFrom
 known-mode zero p h = refl
 known-mode (suc zero) p h = refl
@@ -118,7 +118,7 @@ known-mode (suc (suc (suc zero))) p h = refl
 known-mode (suc (suc (suc (suc zero)))) p h = refl
 known-mode (suc (suc (suc (suc (suc m))))) p h = absurd (omega (arith, h))
 
-mode-fits : (m p : ℕ) → m < 5 → p ≤ 65535 → modeWithin (loopIn (loopFrom (record { mode = m; passes = p }))) ≡ true
+mode-fits : (m p : ℕ) → m ≤ 4 → p ≤ 65535 → modeWithin (loopIn (loopFrom (record { mode = m; passes = p }))) ≡ true
 unfolding loopFrom modeWithin
 mode-fits zero p h l = refl
 mode-fits (suc zero) p h l = le-leb p 65535 l
@@ -127,7 +127,7 @@ mode-fits (suc (suc (suc zero))) p h l = refl
 mode-fits (suc (suc (suc (suc zero)))) p h l = le-leb p 65535 l
 mode-fits (suc (suc (suc (suc (suc m))))) p h l = absurd (omega (arith, h))
 
-known-state : (n : ℕ) → n < 4 → stateFrom n ≡ state.Known (stateAt n)
+known-state : (n : ℕ) → n ≤ 3 → stateFrom n ≡ state.Known (stateAt n)
 unfolding stateFrom
 known-state zero h = refl
 known-state (suc zero) h = refl

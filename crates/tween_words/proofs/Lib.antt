@@ -1,3 +1,4 @@
+mod Exact
 pub mod Fits
 mod Folding
 mod Moving

@@ -80,7 +80,7 @@ rests t x w s u = rw (w, u, s) refl
 keep : (l : List ℕ) (i v : ℕ) → getD l i 0 ≡ v → set l i v ≡ l
 keep l i v h = ap (set l i) (sym h) ∙ set-getD l i 0
 
-state-kept : (n : ℕ) → n < 4 → stateWord (stateAt n) ≡ n
+state-kept : (n : ℕ) → n ≤ 3 → stateWord (stateAt n) ≡ n
 unfolding stateWord
 state-kept zero h = refl
 state-kept (suc zero) h = refl

@@ -6,7 +6,6 @@ use mathlib.Core.List.{List}
 use lib.Dec.{eqb}
 use lib.Ieee.{Float}
 use lib.ListN.{set}
-use Rattle.math.specs.Bits.{bitsOf}
 use Rattle.math.specs.Rounded.{zeroF}
 use Rattle.loop_mode.specs.declared.Loop.{Loop}
 use Rattle.folds.specs.declared.Folding.{Folding}
@@ -42,10 +41,10 @@ pub record Steps (ws : List ℕ) (x : Float) (folds : ℕ) (running : Bool) (aft
   pub words : after ≡ tweenInto ws to
 
 abbrev pub SlidesTo : List ℕ → Float → Slid → Type 0
-SlidesTo ws x (To e) = Steps ws x 0 true (set ws 13 (bitsOf e))
-SlidesTo ws x (Waits s) = Steps ws x 0 true (set ws 14 (bitsOf s))
+SlidesTo ws x (To e) = Steps ws x 0 true (set ws 13 e)
+SlidesTo ws x (Waits s) = Steps ws x 0 true (set ws 14 s)
 SlidesTo ws x (Stays running) = Steps ws x 0 running ws
-SlidesTo ws x (Folded e n f) = Steps ws x 1 true (set (set (set ws 13 (bitsOf e)) 16 n) 17 f)
+SlidesTo ws x (Folded e n f) = Steps ws x 1 true (set (set (set ws 13 e) 16 n) 17 f)
 SlidesTo ws x (Ended n f) = Steps ws x 1 false (set (set (set (set ws 13 (wordAt ws 2)) 15 3) 16 n) 17 f)
 SlidesTo ws x Unsure = Unit {0}
 

@@ -16,8 +16,6 @@ fn settings_fit(w: &[u32; 18]) -> bool
     ensures { λ r. ⌜ r ≡ settingsFit (now (w .entry)) ⌝ }
 {
     holds(w[3], w[4], w[5], w[6], w[7])
-        & (w[11] < 5)
-        & (w[12] <= 65535)
         & is_value(w[0])
         & is_value(w[1])
         & (w[2] <= 0x4b80_0000)
@@ -25,15 +23,32 @@ fn settings_fit(w: &[u32; 18]) -> bool
         & (w[10] <= 0x4480_0000)
 }
 
+// Tests one by one: two words compared as one wait for both where either was just written.
 fn clock_fits(w: &[u32; 18]) -> bool
     ensures { λ r. ⌜ r ≡ clockFit (now (w .entry)) ⌝ }
 {
-    (w[13] <= w[2])
-        & (w[14] <= 0x4c00_0000)
-        & (w[16] <= 16777216)
-        & (w[17] <= 1)
-        & (w[15] < 4)
-        & ((0 < w[15]) | (w[14] < w[9]))
+    if w[11] > 4 {
+        return false;
+    }
+    if w[12] > 65535 {
+        return false;
+    }
+    if w[13] > w[2] {
+        return false;
+    }
+    if w[14] > 0x4c00_0000 {
+        return false;
+    }
+    if w[16] > 16777216 {
+        return false;
+    }
+    if w[17] > 1 {
+        return false;
+    }
+    if w[15] > 3 {
+        return false;
+    }
+    (0 < w[15]) | (w[14] < w[9])
 }
 
 pub fn fits(w: &[u32; 18]) -> bool

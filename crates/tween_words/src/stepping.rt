@@ -11,8 +11,6 @@ ghost use Rattle.tween_words.specs.Fitting.{fitsOf};
 ghost use Rattle.tween_words.specs.Stepping.{turnOf, SlidesTo, StepsTo};
 use crate::fitting::fits;
 use loop_mode::passes;
-use math::bits;
-use math::of_bits;
 use words::flag_word;
 
 // What a fold makes of loop_count and ping_pong_reverse, and whether it is the last.
@@ -22,16 +20,24 @@ pub struct Turn {
     pub done: bool,
 }
 
-// Which words change, and to what.
+impl Turn {
+    fn new(count: u32, flag: u32, done: bool) -> Turn
+        ensures { λ r. ⌜ r ≡ record { count = count; flag = flag; done = done } ⌝ }
+    {
+        Turn { count, flag, done }
+    }
+}
+
+// Which words change, and to what pattern.
 pub enum Slid {
     // elapsed.
-    To(f32),
+    To(u32),
     // delay_elapsed.
-    Waits(f32),
+    Waits(u32),
     // None.
     Stays(bool),
     // elapsed, loop_count and ping_pong_reverse, after a fold.
-    Folded { elapsed: f32, count: u32, flag: u32 },
+    Folded { elapsed: u32, count: u32, flag: u32 },
     // elapsed, which comes to the duration, state, loop_count and ping_pong_reverse.
     Ended { count: u32, flag: u32 },
     Unsure,
@@ -47,61 +53,41 @@ fn turned(mode: u32, limit: u32, count: u32, flag: u32) -> Turn
     ensures { λ r. ⌜ r ≡ turnOf (loopIn (loopFrom (record { mode = mode; passes = limit }))) count flag ⌝ }
 {
     if mode == 2 {
-        return Turn {
-            count,
-            flag,
-            done: false,
-        };
+        return Turn::new(count, flag, false);
     }
     if mode == 3 {
-        return Turn {
-            count,
-            flag: flag_word(flag == 0),
-            done: false,
-        };
+        return Turn::new(count, flag_word(flag == 0), false);
     }
     let n = passes(limit);
     let next = count + 1;
     if mode == 1 {
-        return Turn {
-            count: next,
-            flag,
-            done: n <= next,
-        };
+        return Turn::new(next, flag, n <= next);
     }
     if mode != 4 {
-        return Turn {
-            count,
-            flag,
-            done: true,
-        };
+        return Turn::new(count, flag, true);
     }
     if n <= next {
-        return Turn {
-            count: n,
-            flag: flag_word(n % 2 == 0),
-            done: true,
-        };
+        return Turn::new(n, flag_word(n % 2 == 0), true);
     }
-    Turn {
-        count: next,
-        flag: flag_word(flag == 0),
-        done: false,
-    }
+    Turn::new(next, flag_word(flag == 0), false)
 }
 
+// The patterns of a tween that fits are no NaN's.
 fn run(w: &[u32; 18], secs: f32) -> Slid
     requires { ⌜ (fitsOf (now w) ≡ true) × (wordAt (now w) 15 ≡ 1) × (lt topF secs ≡ false) ⌝ }
     ensures { λ r. ⌜ SlidesTo (now (w .entry)) secs r ⌝ }
 {
-    let duration = of_bits(w[2]);
-    let elapsed = of_bits(w[13]);
-    let e = elapsed + math::max_zero(secs) * of_bits(w[10]);
+    let duration = f32::from_bits(w[2]);
+    let elapsed = f32::from_bits(w[13]);
+    let e = elapsed + math::max_zero(secs) * f32::from_bits(w[10]);
     if e == elapsed {
         return Slid::Unsure;
     }
     if duration == 0.0 {
         return Slid::Unsure;
+    }
+    if e < duration {
+        return Slid::To(f32::to_bits(e));
     }
     if duration <= e {
         let t = turned(w[11], w[12], w[16], w[17]);
@@ -112,29 +98,28 @@ fn run(w: &[u32; 18], secs: f32) -> Slid
             };
         }
         let over = e - duration;
-        if duration <= over {
-            return Slid::Unsure;
+        if over < duration {
+            return Slid::Folded {
+                elapsed: f32::to_bits(over),
+                count: t.count,
+                flag: t.flag,
+            };
         }
-        return Slid::Folded {
-            elapsed: over,
-            count: t.count,
-            flag: t.flag,
-        };
     }
-    Slid::To(e)
+    Slid::Unsure
 }
 
 fn wait(w: &[u32; 18], secs: f32) -> Slid
     requires { ⌜ (fitsOf (now w) ≡ true) × (wordAt (now w) 15 ≡ 0) × (lt topF secs ≡ false) ⌝ }
     ensures { λ r. ⌜ SlidesTo (now (w .entry)) secs r ⌝ }
 {
-    let waited = of_bits(w[14]);
+    let waited = f32::from_bits(w[14]);
     let sum = waited + math::max_zero(secs);
     if sum == waited {
         return Slid::Unsure;
     }
-    if sum < of_bits(w[9]) {
-        return Slid::Waits(sum);
+    if sum < f32::from_bits(w[9]) {
+        return Slid::Waits(f32::to_bits(sum));
     }
     Slid::Unsure
 }
@@ -158,48 +143,42 @@ fn slide(w: &[u32; 18], secs: f32) -> Slid
     }
 }
 
+fn ran(folds: u32, running: bool) -> Stepped
+    ensures { λ r. ⌜ r ≡ Stepped.Ran folds running ⌝ }
+{
+    Stepped::Ran { folds, running }
+}
+
 // Unsure: no word is changed.
 pub fn step_on(w: &mut [u32; 18], secs: f32) -> Stepped
     ensures { λ r. ⌜ StepsTo (now (w .entry)) secs (now (w .exit)) r ⌝ }
 {
     match slide(w, secs) {
         Slid::To(e) => {
-            w[13] = bits(e);
-            Stepped::Ran {
-                folds: 0,
-                running: true,
-            }
+            w[13] = e;
+            ran(0, true)
         }
         Slid::Waits(sum) => {
-            w[14] = bits(sum);
-            Stepped::Ran {
-                folds: 0,
-                running: true,
-            }
+            w[14] = sum;
+            ran(0, true)
         }
-        Slid::Stays(running) => Stepped::Ran { folds: 0, running },
+        Slid::Stays(running) => ran(0, running),
         Slid::Folded {
             elapsed,
             count,
             flag,
         } => {
-            w[13] = bits(elapsed);
+            w[13] = elapsed;
             w[16] = count;
             w[17] = flag;
-            Stepped::Ran {
-                folds: 1,
-                running: true,
-            }
+            ran(1, true)
         }
         Slid::Ended { count, flag } => {
             w[13] = w[2];
             w[15] = 3;
             w[16] = count;
             w[17] = flag;
-            Stepped::Ran {
-                folds: 1,
-                running: false,
-            }
+            ran(1, false)
         }
         Slid::Unsure => Stepped::Unsure,
     }

@@ -1,5 +1,7 @@
 // The value of a tween, of a plain kind or of CubicBezier.
 ghost use mathlib.Core.Path.{_≡_};
+ghost use mathlib.Core.Bool.{true};
+ghost use Rattle.tween_words.specs.Fitting.{fitsOf};
 ghost use Rattle.tween_words.specs.Valuing.{blended, ValuesTo};
 use crate::fitting::fits;
 use bezier::Found;
@@ -7,7 +9,6 @@ use easing_words::Drawn;
 use easing_words::Searched;
 use easing_words::draw;
 use easing_words::search;
-use math::of_bits;
 
 pub enum Valued {
     Plain(f32),
@@ -17,10 +18,11 @@ pub enum Valued {
 
 // The ends are exchanged while ping_pong_reverse.
 fn blend_in(w: &[u32; 18], c: f32) -> f32
+    requires { ⌜ fitsOf (now w) ≡ true ⌝ }
     ensures { λ r. ⌜ r ≡ blended (now (w .entry)) c ⌝ }
 {
-    let start = of_bits(w[0]);
-    let end = of_bits(w[1]);
+    let start = f32::from_bits(w[0]);
+    let end = f32::from_bits(w[1]);
     if w[17] != 0 {
         return math::blend(end, start, c);
     }
@@ -33,11 +35,11 @@ pub fn value(w: &[u32; 18]) -> Valued
     if !fits(w) {
         return Valued::Unsure;
     }
-    let duration = of_bits(w[2]);
+    let duration = f32::from_bits(w[2]);
     if duration == 0.0 {
-        return Valued::Plain(of_bits(w[1]));
+        return Valued::Plain(f32::from_bits(w[1]));
     }
-    let p = math::ratio(of_bits(w[13]), duration);
+    let p = math::ratio(f32::from_bits(w[13]), duration);
     if math::is_nan(p) {
         return Valued::Unsure;
     }

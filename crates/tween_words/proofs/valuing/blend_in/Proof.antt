@@ -1,5 +1,8 @@
 -- `blend_in` meets its contract, by what its callees ensure. Assumes nothing.
+use denote.Ref.{now}
 use borrow.Author.Tests.{ne-eqb}
+use Rattle.tween_words.proofs.Exact.{sized}
+use Rattle.tween_words.proofs.Fits.{parts}
 use borrow.Author.Needs.{needs}
 use Rattle.tween_words.proofs.valuing.blend_in.Statement.{statement}
 use Rattle.tween_words.proofs.valuing.blend_in.Tie as tie
@@ -9,11 +12,11 @@ blend-in-spec =
     tie.close
     (tie.spec
     (λ c. search needs)
-    (λ c κs. search needs)
+    (λ c. sized _ (parts (now (c .before .args .w)) (c .before .pre) .start))
+    (λ c. search needs)
+    (λ c. sized _ (parts (now (c .before .before .args .w)) (c .before .before .pre) .end))
     (λ c. search needs)
     (λ c κs. search needs)
-    (λ c. search needs)
+    (λ c. simp (ne-eqb _ _ (c .before .if1 .taken), c .blend .ensures))
     (λ c κs. search needs)
-    (λ c. simp (ne-eqb _ _ (c .before .if1 .taken), c .blend .ensures, c .before .before .before .before .before .of-bits .ensures, c .before .before .before .of-bits2 .ensures))
-    (λ c κs. search needs)
-    (λ c. simp (c .before .if1 .left, c .blend2 .ensures, c .before .before .before .before .before .of-bits .ensures, c .before .before .before .of-bits2 .ensures)))
+    (λ c. simp (c .before .if1 .left, c .blend2 .ensures)))

@@ -1,4 +1,5 @@
 -- `value` meets its contract, by what its tests say. Assumes nothing.
+use native.Mathlib.Omega.{arith}
 use mathlib.Core.Path.{sym, subst⁻¹, _∙_}
 use denote.Ref.{now}
 use Rattle.math.specs.Range.{Within}
@@ -6,6 +7,8 @@ use Rattle.math.proofs.Choice.{passes}
 use Rattle.math.proofs.Ranges.{clamped}
 use Rattle.words.specs.Lent.{easingAt}
 use Rattle.easing_words.proofs.Applied.{plain-applies, bezier-applies}
+use Rattle.tween_words.proofs.Exact.{low, sized}
+use Rattle.tween_words.proofs.Fits.{parts}
 use Rattle.tween_words.proofs.Valued.{valued, valued-end}
 use borrow.Author.Needs.{needs}
 use Rattle.tween_words.proofs.valuing.value.Statement.{statement}
@@ -18,12 +21,12 @@ value-spec =
     (λ c κs. search needs)
     (λ c. search needs)
     (λ c. search needs)
-    (λ c κs. search needs)
+    (λ c. low _ (omega (arith, parts (now (c .before .before .before .args .w)) (passes _ _ (c .before .before .fits2 .ensures) (c .before .if1 .left)) .duration)))
     (λ c. search needs)
-    (λ c κs. search needs)
-    (λ c. rw (c .of-bits2 .ensures) (valued-end (now (c .before .before .before .before .before .before .before .args .w)) (passes _ _ (c .before .before .before .before .before .before .fits2 .ensures) (c .before .before .before .before .before .if1 .left)) (rw (← (c .before .before .before .of-bits .ensures)) (c .before .before .if2 .taken))))
+    (λ c. sized _ (parts (now (c .before .before .before .before .before .args .w)) (passes _ _ (c .before .before .before .before .fits2 .ensures) (c .before .before .before .if1 .left)) .end))
+    (λ c. valued-end (now (c .before .before .before .before .before .args .w)) (passes _ _ (c .before .before .before .before .fits2 .ensures) (c .before .before .before .if1 .left)) (c .before .if2 .taken))
     (λ c. search needs)
-    (λ c κs. search needs)
+    (λ c. low _ (omega (arith, parts (now (c .before .before .before .before .before .args .w)) (passes _ _ (c .before .before .before .before .fits2 .ensures) (c .before .before .before .if1 .left)) .elapsed, parts (now (c .before .before .before .before .before .args .w)) (passes _ _ (c .before .before .before .before .fits2 .ensures) (c .before .before .before .if1 .left)) .duration)))
     (λ c κs. search needs)
     (λ c κs. search needs)
     (λ c. search needs)
@@ -31,8 +34,8 @@ value-spec =
     (λ c. search needs)
     (λ c κs. subst⁻¹ Within (c .before .clamp01 .ensures) (clamped _ (sym (c .before .before .before .is-nan .ensures) ∙ c .before .before .if3 .left)))
     (λ c. search needs)
-    (λ c κs. search needs)
-    (λ c. rw (c .blend-in .ensures) (valued (now (c .before .before .before .before .before .before .before .before .before .before .before .before .before .before .before .before .before .args .w)) (passes _ _ (c .before .before .before .before .before .before .before .before .before .before .before .before .before .before .before .before .fits2 .ensures) (c .before .before .before .before .before .before .before .before .before .before .before .before .before .before .before .if1 .left)) (rw (← (c .before .before .before .before .before .before .before .before .before .before .before .before .before .of-bits .ensures)) (c .before .before .before .before .before .before .before .before .before .before .before .before .if2 .left)) (c .before .before .before .before .before .before .before .before .before .ratio .result) (rw (c .before .before .before .before .before .before .before .before .before .before .of-bits3 .ensures, c .before .before .before .before .before .before .before .before .before .before .before .before .before .of-bits .ensures) at (c .before .before .before .before .before .before .before .before .before .ratio .ensures)) _ (plain-applies (easingAt (now (c .before .before .before .before .before .before .before .before .before .before .before .before .before .before .before .before .before .args .w)) 3) (c .before .before .before .before .before .before .before .before .before .ratio .result) _ _ (sym (c .before .before .c .given .1) ∙ c .before .before .before .before .draw .ensures) (c .before .before .before .before .before .before .clamp01 .ensures) (sym (c .before .before .before .before .before .before .before .before .is-nan .ensures) ∙ c .before .before .before .before .before .before .before .if3 .left) .1)))
+    (λ c κs. passes _ _ (c .before .before .before .before .before .before .before .before .before .before .before .before .before .fits2 .ensures) (c .before .before .before .before .before .before .before .before .before .before .before .before .if1 .left))
+    (λ c. rw (c .blend-in .ensures) (valued (now (c .before .before .before .before .before .before .before .before .before .before .before .before .before .before .before .args .w)) (passes _ _ (c .before .before .before .before .before .before .before .before .before .before .before .before .before .before .fits2 .ensures) (c .before .before .before .before .before .before .before .before .before .before .before .before .before .if1 .left)) (c .before .before .before .before .before .before .before .before .before .before .before .if2 .left) (c .before .before .before .before .before .before .before .before .before .ratio .result) (c .before .before .before .before .before .before .before .before .before .ratio .ensures) _ (plain-applies (easingAt (now (c .before .before .before .before .before .before .before .before .before .before .before .before .before .before .before .args .w)) 3) (c .before .before .before .before .before .before .before .before .before .ratio .result) _ _ (sym (c .before .before .c .given .1) ∙ c .before .before .before .before .draw .ensures) (c .before .before .before .before .before .before .clamp01 .ensures) (sym (c .before .before .before .before .before .before .before .before .is-nan .ensures) ∙ c .before .before .before .before .before .before .before .if3 .left) .1)))
     (λ c. search needs)
     (λ c. search needs)
     (λ c. search needs)
@@ -41,8 +44,8 @@ value-spec =
     (λ c. search needs)
     (λ c κs. search needs)
     (λ c. search needs)
+    (λ c κs. passes _ _ (c .before .before .before .before .before .before .before .before .before .before .before .before .before .before .before .before .before .before .before .before .before .fits2 .ensures) (c .before .before .before .before .before .before .before .before .before .before .before .before .before .before .before .before .before .before .before .before .if1 .left))
     (λ c κs. search needs)
-    (λ c κs. search needs)
-    (λ c. rw (c .with-value .ensures, c .before .blend-in2 .ensures) (valued (now (c .before .before .before .before .before .before .before .before .before .before .before .before .before .before .before .before .before .before .before .before .before .before .before .before .before .before .args .w)) (passes _ _ (c .before .before .before .before .before .before .before .before .before .before .before .before .before .before .before .before .before .before .before .before .before .before .before .before .before .fits2 .ensures) (c .before .before .before .before .before .before .before .before .before .before .before .before .before .before .before .before .before .before .before .before .before .before .before .before .if1 .left)) (rw (← (c .before .before .before .before .before .before .before .before .before .before .before .before .before .before .before .before .before .before .before .before .before .before .of-bits .ensures)) (c .before .before .before .before .before .before .before .before .before .before .before .before .before .before .before .before .before .before .before .before .before .if2 .left)) (c .before .before .before .before .before .before .before .before .before .before .before .before .before .before .before .before .before .before .ratio .result) (rw (c .before .before .before .before .before .before .before .before .before .before .before .before .before .before .before .before .before .before .before .of-bits3 .ensures, c .before .before .before .before .before .before .before .before .before .before .before .before .before .before .before .before .before .before .before .before .before .before .of-bits .ensures) at (c .before .before .before .before .before .before .before .before .before .before .before .before .before .before .before .before .before .before .ratio .ensures)) _ (bezier-applies (easingAt (now (c .before .before .before .before .before .before .before .before .before .before .before .before .before .before .before .before .before .before .before .before .before .before .before .before .before .before .args .w)) 3) (c .before .before .before .before .before .before .before .before .before .before .before .before .before .before .before .before .before .before .ratio .result) _ _ (sym (c .before .before .before .found .given .1) ∙ c .before .before .before .before .before .search .ensures) (c .before .before .before .before .before .before .before .before .before .before .before .before .before .before .before .clamp01 .ensures) (sym (c .before .before .before .before .before .before .before .before .before .before .before .before .before .before .before .before .before .is-nan .ensures) ∙ c .before .before .before .before .before .before .before .before .before .before .before .before .before .before .before .before .if3 .left) .1)))
+    (λ c. rw (c .with-value .ensures, c .before .blend-in2 .ensures) (valued (now (c .before .before .before .before .before .before .before .before .before .before .before .before .before .before .before .before .before .before .before .before .before .before .before .before .args .w)) (passes _ _ (c .before .before .before .before .before .before .before .before .before .before .before .before .before .before .before .before .before .before .before .before .before .before .before .fits2 .ensures) (c .before .before .before .before .before .before .before .before .before .before .before .before .before .before .before .before .before .before .before .before .before .before .if1 .left)) (c .before .before .before .before .before .before .before .before .before .before .before .before .before .before .before .before .before .before .before .before .if2 .left) (c .before .before .before .before .before .before .before .before .before .before .before .before .before .before .before .before .before .before .ratio .result) (c .before .before .before .before .before .before .before .before .before .before .before .before .before .before .before .before .before .before .ratio .ensures) _ (bezier-applies (easingAt (now (c .before .before .before .before .before .before .before .before .before .before .before .before .before .before .before .before .before .before .before .before .before .before .before .before .args .w)) 3) (c .before .before .before .before .before .before .before .before .before .before .before .before .before .before .before .before .before .before .ratio .result) _ _ (sym (c .before .before .before .found .given .1) ∙ c .before .before .before .before .before .search .ensures) (c .before .before .before .before .before .before .before .before .before .before .before .before .before .before .before .clamp01 .ensures) (sym (c .before .before .before .before .before .before .before .before .before .before .before .before .before .before .before .before .before .is-nan .ensures) ∙ c .before .before .before .before .before .before .before .before .before .before .before .before .before .before .before .before .if3 .left) .1)))
     (λ c. search needs)
     (λ c. search needs))
