@@ -1,4 +1,5 @@
 -- Laws that the functions' proofs cite.
 pub mod Checked
 pub mod Placed
+pub mod Rows
 pub mod Sound

@@ -2,6 +2,7 @@
 // count, elapsed, mode, passes, loop_count, complete. Frames are looked at where they stand.
 mod checking;
 mod playing;
+mod pushing;
 mod reading;
 mod sampling;
 
@@ -16,3 +17,6 @@ pub use playing::seek;
 pub use playing::store_clock;
 pub use playing::tick;
 pub use playing::value_at;
+pub use pushing::put;
+pub use pushing::stored_row;
+pub use pushing::takes;
