@@ -3,7 +3,9 @@ ghost use mathlib.Core.Path.{_≡_};
 ghost use mathlib.Core.Bool.{cond, _&&_};
 ghost use Prim.Native.Nat.{_-_, _*_, _<_, _≤_};
 ghost use lib.ListN.{take};
+ghost use lib.Ieee.{eq};
 ghost use Rattle.math.specs.Range.{isValue};
+ghost use Rattle.math.specs.Rounded.{f32, zeroF};
 ghost use Rattle.frames.specs.Inner.{earlierOf};
 ghost use Rattle.frames.specs.Limits.{isTime};
 ghost use Rattle.keyframe.specs.Limits.{baseOf, modeFits};
@@ -17,10 +19,19 @@ use crate::reading::float_at;
 use crate::reading::looping;
 
 // -0 as a time becomes +0.
+fn stored_time(word: u32) -> u32
+    ensures { λ r. ⌜ r ≡ cond (eq (f32 word) zeroF) 0 word ⌝ }
+{
+    if math::of_bits(word) == 0.0 {
+        return 0;
+    }
+    word
+}
+
 pub fn stored_row(row: &[u32; 8]) -> [u32; 8]
     ensures { λ r. ⌜ r ≡ storedRow (now (row .entry)) ⌝ }
 {
-    let time = if math::of_bits(row[0]) == 0.0 { 0 } else { row[0] };
+    let time = stored_time(row[0]);
     [time, row[1], row[2], row[3], row[4], row[5], row[6], row[7]]
 }
 
