@@ -1,17 +1,13 @@
-// A track read from its words, and written back.
+// A track read from its words.
 ghost use mathlib.Core.Path.{_≡_};
 ghost use Rattle.capi.specs.Answers.{foundWords};
 use bezier::Found;
-use keyframe::Changed;
-use keyframe::Outcome;
-use keyframe::Track;
 use words::LaxEasing;
 use words::LaxKeyframe;
 use words::LaxLoop;
 use words::LaxTrack;
 use words::flag_word;
 use words::frame_words;
-use words::track_words;
 
 fn frame_at(w: &[u32; 518], i: usize) -> LaxKeyframe
 {
@@ -56,57 +52,6 @@ pub fn track_in(w: &[u32; 518]) -> LaxTrack
         },
         loop_count: w[516],
         complete: w[517],
-    }
-}
-
-fn put_frame(w: &mut [u32; 518], i: usize, k: LaxKeyframe)
-{
-    if i < 64 {
-        let e = k.easing;
-        w[8 * i] = math::bits(k.time);
-        w[8 * i + 1] = math::bits(k.value);
-        w[8 * i + 2] = e.kind;
-        w[8 * i + 3] = math::bits(e.a);
-        w[8 * i + 4] = math::bits(e.b);
-        w[8 * i + 5] = math::bits(e.c);
-        w[8 * i + 6] = math::bits(e.d);
-        w[8 * i + 7] = e.count;
-    }
-}
-
-fn put_frames(w: &mut [u32; 518], frames: [LaxKeyframe; 64])
-{
-    let mut i: usize = 0;
-    while i < 64 {
-        put_frame(w, i, frames[i]);
-        i += 1;
-    }
-}
-
-pub fn put_whole(track: Track, w: &mut [u32; 518])
-{
-    let t = track_words(frames_at(w), track);
-    let frames = t.frames;
-    put_frames(w, frames);
-    let looping = t.looping;
-    w[512] = t.count;
-    w[513] = math::bits(t.elapsed);
-    w[514] = looping.mode;
-    w[515] = looping.passes;
-    w[516] = t.loop_count;
-    w[517] = t.complete;
-}
-
-pub fn put_track(a: Changed, w: &mut [u32; 518]) -> u32
-{
-    let track = a.track;
-    let outcome = a.outcome;
-    match outcome {
-        Outcome::Done => {
-            put_whole(track, w);
-            0
-        }
-        Outcome::Refused(refusal) => refusal.number(),
     }
 }
 
