@@ -40,19 +40,19 @@ lax_easing bezier(float x1, float y1, float x2, float y2)
     return e;
 }
 
-int value_is(lax_value v, float x) { return v.number == LAX_OK && v.value == x; }
-int refused(lax_value v, uint32_t number) { return v.number == number && v.value == 0.0f; }
+int value_is(value_answer v, float x) { return v.number == LAX_OK && v.value == x; }
+int refused(value_answer v, uint32_t number) { return v.number == number && v.value == 0.0f; }
 
-int found_is(lax_found f, float x, uint32_t settled, uint32_t xs, uint32_t derivatives)
+int found_is(found_answer f, float x, uint32_t settled, uint32_t xs, uint32_t derivatives)
 {
     return f.number == LAX_OK && f.value == x && f.settled == settled && f.xs == xs && f.derivatives == derivatives;
 }
 
-int plain_is(lax_found f, float x) { return found_is(f, x, 1, 0, 0); }
+int plain_is(found_answer f, float x) { return found_is(f, x, 1, 0, 0); }
 
-int not_found(lax_found f, uint32_t number)
+int not_found(found_answer f, uint32_t number)
 {
-    const lax_found rest = {number, 0.0f, 0, 0, 0};
+    const found_answer rest = {number, 0.0f, 0, 0, 0};
     return memcmp(&f, &rest, sizeof f) == 0;
 }
 

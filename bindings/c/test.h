@@ -5,6 +5,7 @@
 #include <math.h>
 #include <string.h>
 
+#include "calls.h"
 #include "laxombiit.h"
 
 /* Counts what holds, and prints what does not. */
@@ -15,13 +16,13 @@ void check(int holds, const char *file, int line, const char *what);
 lax_easing kind(uint32_t k);
 lax_easing steps(uint32_t n);
 lax_easing bezier(float x1, float y1, float x2, float y2);
-int value_is(lax_value v, float x);
-int refused(lax_value v, uint32_t number);
+int value_is(value_answer v, float x);
+int refused(value_answer v, uint32_t number);
 
 /* Accepted, after such a search. */
-int found_is(lax_found f, float x, uint32_t settled, uint32_t xs, uint32_t derivatives);
-int plain_is(lax_found f, float x); /* after none */
-int not_found(lax_found f, uint32_t number);
+int found_is(found_answer f, float x, uint32_t settled, uint32_t xs, uint32_t derivatives);
+int plain_is(found_answer f, float x); /* after none */
+int not_found(found_answer f, uint32_t number);
 
 void test_easings(void);
 void test_tweens(void);

@@ -17,7 +17,7 @@ static size_t log_of(uint8_t *log, const row *rows, size_t count)
 {
     size_t k;
     int b;
-    lax_log_head(log, 5);
+    log_head(log, 5);
     for (k = 0; k < count; k++) {
         uint8_t *record = log + 5 + 8 * k;
         uint32_t bits;
@@ -36,37 +36,37 @@ static size_t log_of(uint8_t *log, const row *rows, size_t count)
 /* One pass a second. */
 static lax_tween pump(void)
 {
-    lax_tween t = lax_tween_new(0.0f, 8.0f);
+    lax_tween t = tween_new(0.0f, 8.0f);
     t.looping.mode = LAX_TIMES;
     t.looping.passes = 60000;
     return t;
 }
 
-static lax_replay begun(lax_tween t)
+static replay_answer begun(lax_tween t)
 {
-    lax_replay r;
+    replay_answer r;
     memset(&r, 0, sizeof r);
     r.last = LAX_NO_RECORD;
     r.tween = t;
     return r;
 }
 
-static lax_replay came_to(lax_tween t, uint32_t last, uint64_t missing, uint64_t folds)
+static replay_answer came_to(lax_tween t, uint32_t last, uint64_t missing, uint64_t folds)
 {
-    lax_replay r = begun(t);
+    replay_answer r = begun(t);
     r.last = last;
     r.missing = missing;
     r.folds = folds;
     return r;
 }
 
-static int same(lax_replay x, lax_replay y)
+static int same(replay_answer x, replay_answer y)
 {
     return x.missing == y.missing && x.folds == y.folds && x.last == y.last &&
            memcmp(&x.tween, &y.tween, sizeof x.tween) == 0;
 }
 
-static int ended(lax_replayed r, uint32_t number, size_t done, lax_replay reached)
+static int ended(replayed_answer r, uint32_t number, size_t done, replay_answer reached)
 {
     return r.number == number && r.done == done && same(r.reached, reached);
 }
@@ -121,21 +121,21 @@ static void replays(void)
     lax_tween t = pump();
 
     fill(gaps);
-    CHECK(ended(lax_log_replay(t, log, log_of(log, small, 5), gaps, RECORDS), LAX_OK, 5, came_to(t, 4, 0, 0)));
+    CHECK(ended(log_replay(t, log, log_of(log, small, 5), gaps, RECORDS), LAX_OK, 5, came_to(t, 4, 0, 0)));
     CHECK(gaps_are(gaps, none, 5));
-    CHECK(lax_log_replay(t, log, 13, gaps, 1).reached.tween.elapsed == 0.02f);
-    CHECK(lax_log_replay(t, log, 21, gaps, 2).reached.tween.state == LAX_PAUSED);
-    CHECK(lax_log_replay(t, log, 29, gaps, 3).reached.tween.state == LAX_RUNNING);
+    CHECK(log_replay(t, log, 13, gaps, 1).reached.tween.elapsed == 0.02f);
+    CHECK(log_replay(t, log, 21, gaps, 2).reached.tween.state == LAX_PAUSED);
+    CHECK(log_replay(t, log, 29, gaps, 3).reached.tween.state == LAX_RUNNING);
     fill(gaps);
     t.loop_count = 1;
-    CHECK(ended(lax_log_replay(pump(), log, log_of(log, spotted, 11), gaps, RECORDS), LAX_OK, 11,
+    CHECK(ended(log_replay(pump(), log, log_of(log, spotted, 11), gaps, RECORDS), LAX_OK, 11,
                 came_to(t, 515, 65344, 514)));
     CHECK(gaps_are(gaps, spots, 11));
     /* a flag of 7 comes back as it is where no record is read */
     fill(gaps);
     t.ping_pong_reverse = 7;
-    CHECK(ended(lax_log_replay(t, log, 5, gaps, 0), LAX_OK, 0, begun(t)) && untouched(gaps));
-    CHECK(lax_log_replay(t, log, 13, gaps, 1).reached.tween.ping_pong_reverse == 1);
+    CHECK(ended(log_replay(t, log, 5, gaps, 0), LAX_OK, 0, begun(t)) && untouched(gaps));
+    CHECK(log_replay(t, log, 13, gaps, 1).reached.tween.ping_pong_reverse == 1);
 }
 
 /* What is missing between two numbers; the last two are a repeat. */
@@ -156,7 +156,7 @@ static void losses(void)
         repeat = k == 5;
         t.loop_count = repeat ? 1 : 2;
         fill(gaps);
-        CHECK(ended(lax_log_replay(pump(), log, log_of(log, rows, 2), gaps, 2), LAX_OK, 2,
+        CHECK(ended(log_replay(pump(), log, log_of(log, rows, 2), gaps, 2), LAX_OK, 2,
                     came_to(t, number[k][1], repeat ? 0 : number[k][2], t.loop_count)));
         CHECK(gaps_are(gaps, expected, 2));
     }
@@ -171,24 +171,24 @@ static void refuses(void)
     lax_tween t = pump(), odd = t;
 
     fill(gaps);
-    CHECK(ended(lax_log_replay(t, log, length, gaps, 10), LAX_OUTPUT_TOO_SHORT, 0, begun(t)));
-    CHECK(ended(lax_log_replay(t, log, 6, gaps, 0), LAX_WRONG_LENGTH, 0, begun(t)));
-    CHECK(ended(lax_log_replay(t, log, length - 1, gaps, 0), LAX_WRONG_LENGTH, 0, begun(t)));
-    CHECK(ended(lax_log_replay(t, log, 4, gaps, 0), LAX_UNKNOWN_VERSION, 0, begun(t)));
-    CHECK(ended(lax_log_replay(t, log, 3, gaps, 0), LAX_UNKNOWN_VERSION, 0, begun(t)));
+    CHECK(ended(log_replay(t, log, length, gaps, 10), LAX_OUTPUT_TOO_SHORT, 0, begun(t)));
+    CHECK(ended(log_replay(t, log, 6, gaps, 0), LAX_WRONG_LENGTH, 0, begun(t)));
+    CHECK(ended(log_replay(t, log, length - 1, gaps, 0), LAX_WRONG_LENGTH, 0, begun(t)));
+    CHECK(ended(log_replay(t, log, 4, gaps, 0), LAX_UNKNOWN_VERSION, 0, begun(t)));
+    CHECK(ended(log_replay(t, log, 3, gaps, 0), LAX_UNKNOWN_VERSION, 0, begun(t)));
     log[4] = 1;
-    CHECK(ended(lax_log_replay(t, log, length - 1, gaps, 0), LAX_UNKNOWN_VERSION, 0, begun(t)));
-    CHECK(ended(lax_log_replay(t, log, 2, gaps, 0), LAX_WRONG_MARK, 0, begun(t)));
-    CHECK(ended(lax_log_replay(t, log, 0, gaps, 0), LAX_WRONG_MARK, 0, begun(t)));
+    CHECK(ended(log_replay(t, log, length - 1, gaps, 0), LAX_UNKNOWN_VERSION, 0, begun(t)));
+    CHECK(ended(log_replay(t, log, 2, gaps, 0), LAX_WRONG_MARK, 0, begun(t)));
+    CHECK(ended(log_replay(t, log, 0, gaps, 0), LAX_WRONG_MARK, 0, begun(t)));
     log[2] = 'l';
-    CHECK(ended(lax_log_replay(t, log, length - 1, gaps, 0), LAX_WRONG_MARK, 0, begun(t)));
+    CHECK(ended(log_replay(t, log, length - 1, gaps, 0), LAX_WRONG_MARK, 0, begun(t)));
     /* words that come back as they are: a flag of 7, and a parameter that Linear has no use for */
     odd.ping_pong_reverse = 7;
     odd.easing.c = 5.0f;
     odd.elapsed = 2.0f;
-    CHECK(ended(lax_log_replay(odd, log, length - 1, gaps, 0), LAX_RECORD_BREAKS_LIMIT, 0, begun(odd)));
+    CHECK(ended(log_replay(odd, log, length - 1, gaps, 0), LAX_RECORD_BREAKS_LIMIT, 0, begun(odd)));
     odd.state = 4;
-    CHECK(ended(lax_log_replay(odd, log, length - 1, gaps, 0), LAX_UNKNOWN_WORD, 0, begun(odd)));
+    CHECK(ended(log_replay(odd, log, length - 1, gaps, 0), LAX_UNKNOWN_WORD, 0, begun(odd)));
     CHECK(untouched(gaps));
 }
 
@@ -197,29 +197,29 @@ static void refuses_on(void)
 {
     uint8_t log[5 + 8 * RECORDS];
     uint16_t gaps[RECORDS];
-    lax_replay r = came_to(pump(), 701, 3, 4), normal;
+    replay_answer r = came_to(pump(), 701, 3, 4), normal;
     log_of(log, spotted, 11);
     r.tween.ping_pong_reverse = 7;
     r.tween.elapsed = 2.0f;
     fill(gaps);
-    CHECK(ended(lax_log_replay_on(r, log + 5, 87, gaps, 0), LAX_WRONG_LENGTH, 0, r));
-    CHECK(ended(lax_log_replay_on(r, log + 5, 1, gaps, 0), LAX_WRONG_LENGTH, 0, r));
-    CHECK(ended(lax_log_replay_on(r, log + 5, 88, gaps, 10), LAX_OUTPUT_TOO_SHORT, 0, r));
-    CHECK(ended(lax_log_replay_on(r, log + 5, 0, gaps, 0), LAX_OK, 0, r));
-    CHECK(ended(lax_log_replay_on(r, log + 5, 8, gaps, 1), LAX_RECORD_BREAKS_LIMIT, 0, r));
+    CHECK(ended(log_replay_on(r, log + 5, 87, gaps, 0), LAX_WRONG_LENGTH, 0, r));
+    CHECK(ended(log_replay_on(r, log + 5, 1, gaps, 0), LAX_WRONG_LENGTH, 0, r));
+    CHECK(ended(log_replay_on(r, log + 5, 88, gaps, 10), LAX_OUTPUT_TOO_SHORT, 0, r));
+    CHECK(ended(log_replay_on(r, log + 5, 0, gaps, 0), LAX_OK, 0, r));
+    CHECK(ended(log_replay_on(r, log + 5, 8, gaps, 1), LAX_RECORD_BREAKS_LIMIT, 0, r));
     CHECK(untouched(gaps));
     normal = r;
     normal.tween.ping_pong_reverse = 1;
-    CHECK(ended(lax_log_replay_on(r, log + 21, 24, gaps, 3), LAX_RECORD_BREAKS_LIMIT, 2, normal));
+    CHECK(ended(log_replay_on(r, log + 21, 24, gaps, 3), LAX_RECORD_BREAKS_LIMIT, 2, normal));
     CHECK(gaps_are(gaps, spots + 2, 2));
     fill(gaps);
     r.last = LAX_NO_RECORD + 1;
-    CHECK(ended(lax_log_replay_on(r, log + 5, 87, gaps, 0), LAX_UNKNOWN_WORD, 0, r));
+    CHECK(ended(log_replay_on(r, log + 5, 87, gaps, 0), LAX_UNKNOWN_WORD, 0, r));
     r.last = 0xffffffffu;
-    CHECK(ended(lax_log_replay_on(r, log + 5, 88, gaps, 11), LAX_UNKNOWN_WORD, 0, r));
+    CHECK(ended(log_replay_on(r, log + 5, 88, gaps, 11), LAX_UNKNOWN_WORD, 0, r));
     r.last = 0;
     r.tween.looping.mode = 5;
-    CHECK(ended(lax_log_replay_on(r, log + 5, 87, gaps, 0), LAX_UNKNOWN_WORD, 0, r));
+    CHECK(ended(log_replay_on(r, log + 5, 87, gaps, 0), LAX_UNKNOWN_WORD, 0, r));
     CHECK(untouched(gaps));
 }
 
@@ -247,12 +247,12 @@ static void wrong_records(void)
             log_of(log, rows, 3);
             log[13] = (uint8_t)number;
             memcpy(log + 15, wrong[k], 6);
-            CHECK(ended(lax_log_replay(pump(), log, 29, gaps, 3), LAX_WRONG_RECORD, 1, came_to(t, 0, 0, 1)));
+            CHECK(ended(log_replay(pump(), log, 29, gaps, 3), LAX_WRONG_RECORD, 1, came_to(t, 0, 0, 1)));
             CHECK(gaps_are(gaps, read, 1));
         }
     }
     fill(gaps);
-    CHECK(ended(lax_log_replay_on(begun(t), log + 13, 8, gaps, 1), LAX_WRONG_RECORD, 0, begun(t)) && untouched(gaps));
+    CHECK(ended(log_replay_on(begun(t), log + 13, 8, gaps, 1), LAX_WRONG_RECORD, 0, begun(t)) && untouched(gaps));
 }
 
 /* A call that the tween refuses, behind a gap, which does not count then. */
@@ -268,7 +268,7 @@ static void stops(void)
 
     for (k = 0; k < 4; k++) {
         lax_tween t = pump();
-        lax_updated u;
+        updated_answer u;
         rows[0].step = step[k][0];
         rows[1].step = step[k][1];
         if (number[k] == LAX_STEP_LOST) {
@@ -276,10 +276,10 @@ static void stops(void)
         } else if (number[k] == LAX_RECORD_BREAKS_LIMIT) {
             t.loop_count = 16777216;
         }
-        u = lax_tween_update(t, step[k][0]);
+        u = tween_update(t, step[k][0]);
         CHECK(u.number == LAX_OK);
         fill(gaps);
-        CHECK(ended(lax_log_replay(t, log, log_of(log, rows, 3), gaps, 3), number[k], 1,
+        CHECK(ended(log_replay(t, log, log_of(log, rows, 3), gaps, 3), number[k], 1,
                     came_to(u.tween, 9, 0, u.folds)));
         CHECK(gaps_are(gaps, read, 1));
     }
@@ -296,11 +296,11 @@ static void caps(void)
 
     log_of(log, rows, 2);
     t.loop_count = 1024;
-    CHECK(ended(lax_log_replay_on(came_to(pump(), 0, most - 1025, most - 1024), log + 5, 16, gaps, 2), LAX_OK, 2,
+    CHECK(ended(log_replay_on(came_to(pump(), 0, most - 1025, most - 1024), log + 5, 16, gaps, 2), LAX_OK, 2,
                 came_to(t, 1026, most - 1, most)));
-    CHECK(ended(lax_log_replay_on(came_to(pump(), 0, most - 1023, most - 1025), log + 5, 16, gaps, 2), LAX_OK, 2,
+    CHECK(ended(log_replay_on(came_to(pump(), 0, most - 1023, most - 1025), log + 5, 16, gaps, 2), LAX_OK, 2,
                 came_to(t, 1026, most, most - 1)));
-    CHECK(ended(lax_log_replay_on(came_to(pump(), 0, most, most - 1), log + 5, 16, gaps, 2), LAX_OK, 2,
+    CHECK(ended(log_replay_on(came_to(pump(), 0, most, most - 1), log + 5, 16, gaps, 2), LAX_OK, 2,
                 came_to(t, 1026, most, most)));
 }
 
@@ -309,17 +309,17 @@ static void cuts(const uint8_t *log, size_t length)
 {
     const size_t count = (length - 5) / 8;
     uint16_t whole[RECORDS], gaps[RECORDS];
-    lax_replayed all, part;
+    replayed_answer all, part;
     size_t cut, place;
 
     fill(whole);
-    all = lax_log_replay(pump(), log, length, whole, count);
+    all = log_replay(pump(), log, length, whole, count);
     for (cut = 0; cut <= count; cut++) {
         fill(gaps);
-        part = lax_log_replay(pump(), log, 5 + 8 * cut, gaps, cut);
+        part = log_replay(pump(), log, 5 + 8 * cut, gaps, cut);
         place = part.done;
         if (part.number == LAX_OK) {
-            part = lax_log_replay_on(part.reached, log + 5 + 8 * cut, 8 * (count - cut), gaps + cut, count - cut);
+            part = log_replay_on(part.reached, log + 5 + 8 * cut, 8 * (count - cut), gaps + cut, count - cut);
             place = cut + part.done;
         }
         CHECK(part.number == all.number && place == all.done && same(part.reached, all.reached));

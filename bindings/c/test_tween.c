@@ -3,7 +3,7 @@
 
 static lax_tween ramp(float duration, uint32_t mode, uint32_t passes)
 {
-    lax_tween t = lax_tween_new(10.0f, 20.0f);
+    lax_tween t = tween_new(10.0f, 20.0f);
     t.duration = duration;
     t.looping.mode = mode;
     t.looping.passes = passes;
@@ -15,29 +15,29 @@ static int same(lax_tween x, lax_tween y) { return memcmp(&x, &y, sizeof x) == 0
 static void reads(void)
 {
     lax_tween t = ramp(4.0f, LAX_TIMES, 3);
-    lax_snapshot now;
+    snapshot_answer now;
     t.easing = kind(LAX_EASE_IN_QUAD);
     t.elapsed = 2.0f;
-    CHECK(plain_is(lax_tween_value(t), 12.5f));
-    CHECK(value_is(lax_tween_progress(t), 0.5f));
-    CHECK(plain_is(lax_tween_eased_progress(t), 0.25f));
-    CHECK(value_is(lax_tween_playback_duration(t), 12.0f));
-    now = lax_tween_snapshot(t);
+    CHECK(plain_is(tween_value(t), 12.5f));
+    CHECK(value_is(tween_progress(t), 0.5f));
+    CHECK(plain_is(tween_eased_progress(t), 0.25f));
+    CHECK(value_is(tween_playback_duration(t), 12.0f));
+    now = tween_snapshot(t);
     CHECK(now.number == LAX_OK && now.elapsed == 2.0f && now.state == LAX_RUNNING);
     t.looping.mode = LAX_FOREVER;
-    CHECK(lax_tween_playback_duration(t).value == INFINITY);
+    CHECK(tween_playback_duration(t).value == INFINITY);
     t.time_scale = -1.0f;
-    CHECK(not_found(lax_tween_value(t), LAX_RECORD_BREAKS_LIMIT));
-    CHECK(refused(lax_tween_progress(t), LAX_RECORD_BREAKS_LIMIT));
-    CHECK(not_found(lax_tween_eased_progress(t), LAX_RECORD_BREAKS_LIMIT));
-    CHECK(refused(lax_tween_playback_duration(t), LAX_RECORD_BREAKS_LIMIT));
-    CHECK(lax_tween_snapshot(t).number == LAX_RECORD_BREAKS_LIMIT && lax_tween_snapshot(t).elapsed == 0.0f);
+    CHECK(not_found(tween_value(t), LAX_RECORD_BREAKS_LIMIT));
+    CHECK(refused(tween_progress(t), LAX_RECORD_BREAKS_LIMIT));
+    CHECK(not_found(tween_eased_progress(t), LAX_RECORD_BREAKS_LIMIT));
+    CHECK(refused(tween_playback_duration(t), LAX_RECORD_BREAKS_LIMIT));
+    CHECK(tween_snapshot(t).number == LAX_RECORD_BREAKS_LIMIT && tween_snapshot(t).elapsed == 0.0f);
     t.state = 4;
-    CHECK(not_found(lax_tween_value(t), LAX_UNKNOWN_WORD));
-    CHECK(refused(lax_tween_progress(t), LAX_UNKNOWN_WORD));
-    CHECK(not_found(lax_tween_eased_progress(t), LAX_UNKNOWN_WORD));
-    CHECK(refused(lax_tween_playback_duration(t), LAX_UNKNOWN_WORD));
-    CHECK(lax_tween_snapshot(t).number == LAX_UNKNOWN_WORD);
+    CHECK(not_found(tween_value(t), LAX_UNKNOWN_WORD));
+    CHECK(refused(tween_progress(t), LAX_UNKNOWN_WORD));
+    CHECK(not_found(tween_eased_progress(t), LAX_UNKNOWN_WORD));
+    CHECK(refused(tween_playback_duration(t), LAX_UNKNOWN_WORD));
+    CHECK(tween_snapshot(t).number == LAX_UNKNOWN_WORD);
 }
 
 /* What the easing's search says is handed on. */
@@ -47,38 +47,46 @@ static void searches(void)
     const float step[3] = {0.45f, 0.55f, 0.45f};
     float value[3];
     uint32_t folds[3];
-    lax_run r;
+    run_answer r;
     t.easing = bezier(1, 0, 0, 1);
-    CHECK(plain_is(lax_tween_value(t), 10.0f) && plain_is(lax_tween_eased_progress(t), 0.0f));
+    CHECK(plain_is(tween_value(t), 10.0f) && plain_is(tween_eased_progress(t), 0.0f));
     t.elapsed = 0.45f;
-    CHECK(found_is(lax_tween_value(t), 11.765354f, 0, 16, 6));
-    CHECK(found_is(lax_tween_eased_progress(t), 0.17653541f, 0, 16, 6));
-    r = lax_tween_run(t, step + 1, 1, value, 3, folds, 3);
+    CHECK(found_is(tween_value(t), 11.765354f, 0, 16, 6));
+    CHECK(found_is(tween_eased_progress(t), 0.17653541f, 0, 16, 6));
+    r = tween_run(t, step + 1, 1, value, 3, folds, 3);
     CHECK(r.number == LAX_OK && r.done == 1 && r.unsettled == 0);
     t.elapsed = 0.0f;
-    r = lax_tween_run(t, step, 3, value, 3, folds, 3);
+    r = tween_run(t, step, 3, value, 3, folds, 3);
     CHECK(r.number == LAX_OK && r.done == 3 && r.unsettled == 2);
-    r = lax_tween_run(t, step, 3, value, 3, folds, 2);
+    r = tween_run(t, step, 3, value, 3, folds, 2);
     CHECK(r.number == LAX_OUTPUT_TOO_SHORT && r.done == 0 && r.unsettled == 0);
     t.duration = 0.0f;
-    CHECK(plain_is(lax_tween_value(t), 20.0f) && plain_is(lax_tween_eased_progress(t), 1.0f));
+    CHECK(plain_is(tween_value(t), 20.0f) && plain_is(tween_eased_progress(t), 1.0f));
 }
 
-typedef lax_changed (*change)(lax_tween);
+typedef changed_answer (*change)(lax_tween);
 
 static void changes(void)
 {
-    change all[4] = {lax_tween_reset, lax_tween_reverse, lax_tween_pause, lax_tween_resume};
-    lax_tween t = ramp(4.0f, LAX_TIMES, 3), broken = t, unknown = t;
+    change all[4] = {tween_reset, tween_reverse, tween_pause, tween_resume};
+    lax_tween t = ramp(4.0f, LAX_TIMES, 3), broken = t, unknown = t, idle;
     int k;
     t.delay = 1.0f;
-    CHECK(lax_tween_reset(t).tween.state == LAX_IDLE);
-    CHECK(lax_tween_pause(t).tween.state == LAX_PAUSED);
-    CHECK(lax_tween_resume(lax_tween_pause(t).tween).tween.state == LAX_RUNNING);
-    CHECK(lax_tween_reverse(t).tween.start == 20.0f && lax_tween_reverse(t).tween.elapsed == 4.0f);
-    CHECK(lax_tween_seek(t, 0.25f).tween.elapsed == 1.0f);
-    CHECK(lax_tween_seek(t, NAN).number == LAX_PROGRESS_IS_NAN && same(lax_tween_seek(t, NAN).tween, t));
-    /* a flag of 7 and a parameter that Linear has no use for come back as they are from a refusal */
+    CHECK(tween_reset(t).tween.state == LAX_IDLE);
+    CHECK(tween_pause(t).tween.state == LAX_PAUSED);
+    CHECK(tween_resume(tween_pause(t).tween).tween.state == LAX_RUNNING);
+    CHECK(tween_reverse(t).tween.start == 20.0f && tween_reverse(t).tween.elapsed == 4.0f);
+    CHECK(tween_seek(t, 0.25f).tween.elapsed == 1.0f);
+    CHECK(tween_seek(t, NAN).number == LAX_PROGRESS_IS_NAN && same(tween_seek(t, NAN).tween, t));
+    t.easing.c = NAN; /* words without a use stay as they came, and a flag is written as 0 or 1 */
+    t.looping.mode = LAX_ONCE;
+    t.looping.passes = 70000;
+    t.ping_pong_reverse = 7;
+    idle = t;
+    idle.state = LAX_IDLE;
+    idle.ping_pong_reverse = 0;
+    CHECK(same(tween_reset(t).tween, idle));
+    /* from a refusal all come back as they came, a flag of 7 too */
     broken.duration = NAN;
     broken.ping_pong_reverse = 7;
     broken.easing.c = 5.0f;
@@ -87,32 +95,32 @@ static void changes(void)
         CHECK(all[k](broken).number == LAX_RECORD_BREAKS_LIMIT && same(all[k](broken).tween, broken));
         CHECK(all[k](unknown).number == LAX_UNKNOWN_WORD && same(all[k](unknown).tween, unknown));
     }
-    CHECK(lax_tween_seek(broken, NAN).number == LAX_RECORD_BREAKS_LIMIT);
-    CHECK(lax_tween_seek(unknown, NAN).number == LAX_UNKNOWN_WORD);
+    CHECK(tween_seek(broken, NAN).number == LAX_RECORD_BREAKS_LIMIT);
+    CHECK(tween_seek(unknown, NAN).number == LAX_UNKNOWN_WORD);
 }
 
 static void updates(void)
 {
     lax_tween t = ramp(3.0f, LAX_TIMES, 4);
-    lax_updated u;
+    updated_answer u;
     t.delay = 2.0f;
-    u = lax_tween_update(lax_tween_reset(t).tween, 3.0f);
+    u = tween_update(tween_reset(t).tween, 3.0f);
     CHECK(u.number == LAX_OK && u.folds == 0 && u.running == 1 && u.tween.elapsed == 1.0f);
-    u = lax_tween_update(u.tween, 5.0f);
+    u = tween_update(u.tween, 5.0f);
     CHECK(u.folds == 2 && u.tween.elapsed == 0.0f);
-    u = lax_tween_update(u.tween, 100.0f);
+    u = tween_update(u.tween, 100.0f);
     CHECK(u.folds == 2 && u.running == 0 && u.tween.elapsed == 3.0f && u.tween.state == LAX_COMPLETED);
     t = ramp(1.0f, LAX_FOREVER, 0);
-    CHECK(lax_tween_update(t, NAN).number == LAX_OK);
-    CHECK(lax_tween_update(t, INFINITY).number == LAX_STEP_TOO_LONG);
-    CHECK(lax_tween_update(t, 4097.0f).number == LAX_TOO_MANY_FOLDS);
-    CHECK(lax_tween_update(t, 4096.0f).folds == 4096);
+    CHECK(tween_update(t, NAN).number == LAX_OK);
+    CHECK(tween_update(t, INFINITY).number == LAX_STEP_TOO_LONG);
+    CHECK(tween_update(t, 4097.0f).number == LAX_TOO_MANY_FOLDS);
+    CHECK(tween_update(t, 4096.0f).folds == 4096);
     t.duration = 16777216.0f;
     t.elapsed = 8388608.0f;
-    u = lax_tween_update(t, 0.25f);
+    u = tween_update(t, 0.25f);
     CHECK(u.number == LAX_STEP_LOST && same(u.tween, t));
     t.easing.kind = 38;
-    u = lax_tween_update(t, 0.25f);
+    u = tween_update(t, 0.25f);
     CHECK(u.number == LAX_UNKNOWN_WORD && same(u.tween, t));
 }
 
@@ -121,25 +129,25 @@ static void runs(void)
     lax_tween t = ramp(4.0f, LAX_FOREVER, 0);
     float step[3] = {1.0f, 2.0f, 9.0f}, value[4] = {-1, -1, -1, -1};
     uint32_t folds[4] = {9, 9, 9, 9};
-    lax_run r = lax_tween_run(t, step, 3, value, 4, folds, 4);
+    run_answer r = tween_run(t, step, 3, value, 4, folds, 4);
     CHECK(r.number == LAX_OK && r.done == 3 && r.tween.elapsed == 0.0f);
     CHECK(value[0] == 12.5f && value[1] == 17.5f && value[2] == 10.0f && value[3] == -1.0f);
     CHECK(folds[0] == 0 && folds[1] == 0 && folds[2] == 3 && folds[3] == 9);
     step[1] = INFINITY;
     value[1] = -2.0f;
-    r = lax_tween_run(t, step, 3, value, 4, folds, 4);
+    r = tween_run(t, step, 3, value, 4, folds, 4);
     CHECK(r.number == LAX_STEP_TOO_LONG && r.done == 1 && r.tween.elapsed == 1.0f && value[1] == -2.0f);
     CHECK(r.unsettled == 0);
-    r = lax_tween_run(t, step, 3, value, 2, folds, 4);
+    r = tween_run(t, step, 3, value, 2, folds, 4);
     CHECK(r.number == LAX_OUTPUT_TOO_SHORT && r.done == 0 && same(r.tween, t));
-    r = lax_tween_run(t, step, 3, value, 4, folds, 2);
+    r = tween_run(t, step, 3, value, 4, folds, 2);
     CHECK(r.number == LAX_OUTPUT_TOO_SHORT);
     t.state = 9;
-    r = lax_tween_run(t, step, 3, value, 0, folds, 0);
+    r = tween_run(t, step, 3, value, 0, folds, 0);
     CHECK(r.number == LAX_UNKNOWN_WORD && same(r.tween, t) && value[1] == -2.0f);
     t.state = LAX_RUNNING;
     t.elapsed = 5.0f;
-    CHECK(lax_tween_run(t, step, 3, value, 0, folds, 0).number == LAX_RECORD_BREAKS_LIMIT);
+    CHECK(tween_run(t, step, 3, value, 0, folds, 0).number == LAX_RECORD_BREAKS_LIMIT);
 }
 
 void test_tweens(void)

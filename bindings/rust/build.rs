@@ -17,5 +17,4 @@ fn main() {
     }
     println!("cargo:rustc-link-search=native={}", folder.display());
     println!("cargo:rustc-link-lib=static=laxombiit");
-    println!("cargo:rustc-link-lib=m");
 }

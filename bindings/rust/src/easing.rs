@@ -116,24 +116,28 @@ impl Easing {
     /// # Ok::<(), Refusal>(())
     /// ```
     pub fn apply(&self, t: f32) -> Result<Found, Refusal> {
-        Found::from_words(unsafe { ffi::lax_easing_apply(self.words(), t) })
+        Found::of(|out| ffi::lax_easing_apply(&self.words(), t, out))
     }
 
     /// Whether `other` is the same kind with equal parameters. Unlike `==` this is the library's
     /// comparison, which refuses: 2, then 3, for either side.
     pub fn equals(&self, other: &Easing) -> Result<bool, Refusal> {
-        let a = unsafe { ffi::lax_easing_eq(self.words(), other.words()) };
-        Refusal::or(a.number, a.flag != 0)
+        let equal = Refusal::or_lent(|out| ffi::lax_easing_eq(&self.words(), &other.words(), out))?;
+        Ok(equal != 0)
     }
 
     /// Whether the kind has a curve.
     pub fn is_supplied(&self) -> bool {
-        unsafe { ffi::lax_easing_is_supplied(self.words()) }.flag != 0
+        Refusal::or_lent(|out| ffi::lax_easing_is_supplied(&self.words(), out)) == Ok(1)
     }
 
     /// The 38 names, with animato's parameters.
     pub fn all_named() -> [Easing; 38] {
-        std::array::from_fn(|k| Easing::from_words(unsafe { ffi::lax_easing_named(k as u32) }.easing))
+        std::array::from_fn(|k| {
+            let mut words = ffi::LaxEasing::default();
+            ffi::lax_easing_named(k as u32, &mut words);
+            Easing::from_words(words)
+        })
     }
 
     pub(crate) fn words(&self) -> ffi::LaxEasing {

@@ -48,8 +48,9 @@ impl Event {
 /// other bytes stay, and where it is refused, all of them.
 pub fn write_head(buffer: &mut [u8]) -> Result<usize, Refusal> {
     // SAFETY: the pointer and the length are those of one slice, and the library writes within it.
-    let logged = unsafe { ffi::lax_log_head(buffer.as_mut_ptr(), buffer.len()) };
-    Refusal::or(logged.number, logged.written)
+    let number =
+        |written: &mut u64| unsafe { ffi::lax_log_head(buffer.as_mut_ptr(), buffer.len() as u64, written) };
+    Refusal::or_lent(number).map(|written| written as usize)
 }
 
 /// Writes one record, 8 bytes, behind the first `written` bytes of the buffer, which are a log, and
@@ -60,9 +61,11 @@ pub fn write_head(buffer: &mut [u8]) -> Result<usize, Refusal> {
 /// where it is not 5 plus a multiple of 8, and 13. Other bytes stay, and where it is refused, all of
 /// them.
 pub fn write_record(buffer: &mut [u8], written: usize, event: Event) -> Result<usize, Refusal> {
+    let mut length = written as u64;
     // SAFETY: as in write_head.
-    let logged = unsafe { ffi::lax_log_record(buffer.as_mut_ptr(), buffer.len(), written, event.words()) };
-    Refusal::or(logged.number, logged.written)
+    let number =
+        unsafe { ffi::lax_log_record(buffer.as_mut_ptr(), buffer.len() as u64, &mut length, &event.words()) };
+    Refusal::or(number, length as usize)
 }
 
 /// How far a replay has come. Both sums stay at `u64::MAX` where they would pass it.
@@ -98,30 +101,24 @@ impl fmt::Display for Stopped {
 impl Error for Stopped {}
 
 /// What no record has for its number.
-const NO_RECORD: u32 = 65_536;
+const NO_RECORD: u64 = 65_536;
 
 impl Replay {
-    fn words(&self) -> ffi::LaxReplay {
-        ffi::LaxReplay {
-            missing: self.missing,
-            folds: self.folds,
-            last: self.last.map_or(NO_RECORD, u32::from),
-            tween: self.tween.words(),
-        }
-    }
-
-    fn from_words(w: ffi::LaxReplay) -> Replay {
-        Replay {
-            tween: Tween::from_words(w.tween),
-            last: u16::try_from(w.last).ok(),
-            missing: w.missing,
-            folds: w.folds,
-        }
-    }
-
-    fn or_stopped(a: ffi::LaxReplayed) -> Result<Replay, Stopped> {
-        let reached = Replay::from_words(a.reached);
-        Refusal::or(a.number, reached).map_err(|refusal| Stopped { place: a.done, refusal, reached })
+    /// From where a call leaves the words of the tween and of what is reached.
+    fn go_on(
+        mut self,
+        call: impl FnOnce(&mut ffi::LaxTween, &mut ffi::LaxReplay) -> u32,
+    ) -> Result<Replay, Stopped> {
+        let last = self.last.map_or(NO_RECORD, u64::from);
+        let mut words = self.tween.words();
+        let mut reached = ffi::LaxReplay { missing: self.missing, folds: self.folds, last, done: 0 };
+        let number = call(&mut words, &mut reached);
+        self.tween.take(&words);
+        self.last = u16::try_from(reached.last).ok();
+        self.missing = reached.missing;
+        self.folds = reached.folds;
+        let place = reached.done as usize;
+        Refusal::or(number, self).map_err(|refusal| Stopped { place, refusal, reached: self })
     }
 }
 
@@ -154,11 +151,13 @@ impl Replay {
 /// # Ok::<(), laxombiit::Refusal>(())
 /// ```
 pub fn replay(tween: Tween, log: &[u8], gaps: &mut [u16]) -> Result<Replay, Stopped> {
+    let begun = Replay { tween, last: None, missing: 0, folds: 0 };
+    let (list, room) = (gaps.as_mut_ptr(), gaps.len() as u64);
     // SAFETY: each pointer and its length are those of one slice; the library reads within the first
     // and writes within the second.
-    let replayed =
-        unsafe { ffi::lax_log_replay(tween.words(), log.as_ptr(), log.len(), gaps.as_mut_ptr(), gaps.len()) };
-    Replay::or_stopped(replayed)
+    begun.go_on(|t, reached| unsafe {
+        ffi::lax_log_replay(t, log.as_ptr(), log.len() as u64, list, room, reached)
+    })
 }
 
 /// Goes on with the whole records that follow, for a log that is read part by part: `replay` takes the
@@ -183,15 +182,9 @@ pub fn replay(tween: Tween, log: &[u8], gaps: &mut [u16]) -> Result<Replay, Stop
 /// assert_eq!((gaps[0], reached.missing), (1, 1));
 /// ```
 pub fn replay_on(reached: Replay, records: &[u8], gaps: &mut [u16]) -> Result<Replay, Stopped> {
+    let (list, room) = (gaps.as_mut_ptr(), gaps.len() as u64);
     // SAFETY: as in replay.
-    let replayed = unsafe {
-        ffi::lax_log_replay_on(
-            reached.words(),
-            records.as_ptr(),
-            records.len(),
-            gaps.as_mut_ptr(),
-            gaps.len(),
-        )
-    };
-    Replay::or_stopped(replayed)
+    reached.go_on(|t, reached| unsafe {
+        ffi::lax_log_replay_on(t, records.as_ptr(), records.len() as u64, list, room, reached)
+    })
 }

@@ -1,7 +1,7 @@
 //! What this crate calls of the C interface, as include/laxombiit.h has it.
 
 #[repr(C)]
-#[derive(Clone, Copy)]
+#[derive(Clone, Copy, Default)]
 pub struct LaxEasing {
     pub kind: u32,
     pub a: f32,
@@ -12,14 +12,14 @@ pub struct LaxEasing {
 }
 
 #[repr(C)]
-#[derive(Clone, Copy)]
+#[derive(Clone, Copy, Default)]
 pub struct LaxLoop {
     pub mode: u32,
     pub passes: u32,
 }
 
 #[repr(C)]
-#[derive(Clone, Copy)]
+#[derive(Clone, Copy, Default)]
 pub struct LaxTween {
     pub start: f32,
     pub end: f32,
@@ -35,15 +35,10 @@ pub struct LaxTween {
     pub ping_pong_reverse: u32,
 }
 
+/// What a call writes into a place that it is lent, here and below.
 #[repr(C)]
-pub struct LaxValue {
-    pub number: u32,
-    pub value: f32,
-}
-
-#[repr(C)]
+#[derive(Default)]
 pub struct LaxFound {
-    pub number: u32,
     pub value: f32,
     pub settled: u32,
     pub xs: u32,
@@ -51,20 +46,8 @@ pub struct LaxFound {
 }
 
 #[repr(C)]
-pub struct LaxFlag {
-    pub number: u32,
-    pub flag: u32,
-}
-
-#[repr(C)]
-pub struct LaxEasingAnswer {
-    pub number: u32,
-    pub easing: LaxEasing,
-}
-
-#[repr(C)]
+#[derive(Default)]
 pub struct LaxSnapshot {
-    pub number: u32,
     pub elapsed: f32,
     pub delay_elapsed: f32,
     pub state: u32,
@@ -73,31 +56,23 @@ pub struct LaxSnapshot {
 }
 
 #[repr(C)]
-pub struct LaxChanged {
-    pub number: u32,
-    pub tween: LaxTween,
-}
-
-#[repr(C)]
+#[derive(Default)]
 pub struct LaxUpdated {
-    pub number: u32,
     pub folds: u32,
     pub running: u32,
-    pub tween: LaxTween,
 }
 
 #[repr(C)]
+#[derive(Default)]
 pub struct LaxRun {
-    pub done: usize,
-    pub unsettled: usize,
-    pub number: u32,
-    pub tween: LaxTween,
+    pub done: u64,
+    pub unsettled: u64,
 }
 
 pub const FRAMES: usize = 64;
 
 #[repr(C)]
-#[derive(Clone, Copy)]
+#[derive(Clone, Copy, Default)]
 pub struct LaxKeyframe {
     pub time: f32,
     pub value: f32,
@@ -116,23 +91,10 @@ pub struct LaxTrack {
 }
 
 #[repr(C)]
-pub struct LaxTrackChanged {
-    pub number: u32,
-    pub track: LaxTrack,
-}
-
-#[repr(C)]
-pub struct LaxTrackUpdated {
-    pub number: u32,
-    pub running: u32,
-    pub track: LaxTrack,
-}
-
-#[repr(C)]
+#[derive(Default)]
 pub struct LaxFilled {
-    pub filled: usize,
-    pub unsettled: usize,
-    pub number: u32,
+    pub filled: u64,
+    pub unsettled: u64,
 }
 
 #[repr(C)]
@@ -142,113 +104,109 @@ pub struct LaxEvent {
 }
 
 #[repr(C)]
-pub struct LaxLogged {
-    pub written: usize,
-    pub number: u32,
-}
-
-#[repr(C)]
 pub struct LaxReplay {
     pub missing: u64,
     pub folds: u64,
-    pub last: u32,
-    pub tween: LaxTween,
-}
-
-#[repr(C)]
-pub struct LaxReplayed {
-    pub done: usize,
-    pub number: u32,
-    pub reached: LaxReplay,
+    pub last: u64,
+    pub done: u64,
 }
 
 const _: () = {
-    use std::mem::size_of;
+    use std::mem::{offset_of, size_of};
     assert!(size_of::<LaxEasing>() == 24);
+    assert!(offset_of!(LaxEasing, count) == 20);
     assert!(size_of::<LaxLoop>() == 8);
     assert!(size_of::<LaxTween>() == 72);
-    assert!(size_of::<LaxValue>() == 8);
-    assert!(size_of::<LaxFound>() == 20);
-    assert!(size_of::<LaxFlag>() == 8);
-    assert!(size_of::<LaxEasingAnswer>() == 28);
-    assert!(size_of::<LaxSnapshot>() == 24);
-    assert!(size_of::<LaxChanged>() == 76);
-    assert!(size_of::<LaxUpdated>() == 84);
-    assert!(size_of::<LaxRun>() == 96);
+    assert!(offset_of!(LaxTween, easing) == 12);
+    assert!(offset_of!(LaxTween, delay) == 36);
+    assert!(offset_of!(LaxTween, looping) == 44);
+    assert!(offset_of!(LaxTween, elapsed) == 52);
+    assert!(offset_of!(LaxTween, ping_pong_reverse) == 68);
+    assert!(size_of::<LaxFound>() == 16);
+    assert!(size_of::<LaxSnapshot>() == 20);
+    assert!(size_of::<LaxUpdated>() == 8);
+    assert!(size_of::<LaxRun>() == 16);
     assert!(size_of::<LaxKeyframe>() == 32);
+    assert!(offset_of!(LaxKeyframe, easing) == 8);
     assert!(size_of::<LaxTrack>() == 2072);
-    assert!(size_of::<LaxTrackChanged>() == 2076);
-    assert!(size_of::<LaxTrackUpdated>() == 2080);
-    assert!(size_of::<LaxFilled>() == 24);
+    assert!(offset_of!(LaxTrack, count) == 2048);
+    assert!(offset_of!(LaxTrack, looping) == 2056);
+    assert!(offset_of!(LaxTrack, complete) == 2068);
+    assert!(size_of::<LaxFilled>() == 16);
     assert!(size_of::<LaxEvent>() == 8);
-    assert!(size_of::<LaxLogged>() == 16);
-    assert!(size_of::<LaxReplay>() == 96);
-    assert!(size_of::<LaxReplayed>() == 112);
+    assert!(size_of::<LaxReplay>() == 32);
 };
 
-extern "C" {
-    pub fn lax_easing_apply(e: LaxEasing, t: f32) -> LaxFound;
-    pub fn lax_easing_eq(x: LaxEasing, y: LaxEasing) -> LaxFlag;
-    pub fn lax_easing_is_supplied(e: LaxEasing) -> LaxFlag;
-    pub fn lax_easing_named(place: u32) -> LaxEasingAnswer;
+// SAFETY: the header declares each of these so, and a reference is what it asks of a pointer: not null,
+// aligned, to a whole record, and where it is written, the only one. A `safe fn` takes references and numbers
+// alone, and every pattern of bits is legal in what they lend.
+unsafe extern "C" {
+    pub safe fn lax_easing_apply(e: &LaxEasing, t: f32, out: &mut LaxFound) -> u32;
+    pub safe fn lax_easing_eq(x: &LaxEasing, y: &LaxEasing, out: &mut u32) -> u32;
+    pub safe fn lax_easing_is_supplied(e: &LaxEasing, out: &mut u32) -> u32;
+    pub safe fn lax_easing_named(place: u32, out: &mut LaxEasing) -> u32;
 
-    pub fn lax_tween_new(start: f32, end: f32) -> LaxTween;
-    pub fn lax_tween_value(t: LaxTween) -> LaxFound;
-    pub fn lax_tween_progress(t: LaxTween) -> LaxValue;
-    pub fn lax_tween_eased_progress(t: LaxTween) -> LaxFound;
-    pub fn lax_tween_snapshot(t: LaxTween) -> LaxSnapshot;
-    pub fn lax_tween_playback_duration(t: LaxTween) -> LaxValue;
-    pub fn lax_tween_reset(t: LaxTween) -> LaxChanged;
-    pub fn lax_tween_seek(t: LaxTween, progress: f32) -> LaxChanged;
-    pub fn lax_tween_reverse(t: LaxTween) -> LaxChanged;
-    pub fn lax_tween_pause(t: LaxTween) -> LaxChanged;
-    pub fn lax_tween_resume(t: LaxTween) -> LaxChanged;
-    pub fn lax_tween_update(t: LaxTween, step: f32) -> LaxUpdated;
+    pub safe fn lax_tween_new(t: &mut LaxTween, start: f32, end: f32) -> u32;
+    pub safe fn lax_tween_value(t: &LaxTween, out: &mut LaxFound) -> u32;
+    pub safe fn lax_tween_progress(t: &LaxTween, out: &mut f32) -> u32;
+    pub safe fn lax_tween_eased_progress(t: &LaxTween, out: &mut LaxFound) -> u32;
+    pub safe fn lax_tween_snapshot(t: &LaxTween, out: &mut LaxSnapshot) -> u32;
+    pub safe fn lax_tween_playback_duration(t: &LaxTween, out: &mut f32) -> u32;
+    pub safe fn lax_tween_reset(t: &mut LaxTween) -> u32;
+    pub safe fn lax_tween_seek(t: &mut LaxTween, progress: f32) -> u32;
+    pub safe fn lax_tween_reverse(t: &mut LaxTween) -> u32;
+    pub safe fn lax_tween_pause(t: &mut LaxTween) -> u32;
+    pub safe fn lax_tween_resume(t: &mut LaxTween) -> u32;
+    pub safe fn lax_tween_update(t: &mut LaxTween, step: f32, out: &mut LaxUpdated) -> u32;
     pub fn lax_tween_run(
-        t: LaxTween,
+        t: &mut LaxTween,
         steps: *const f32,
-        steps_len: usize,
+        steps_len: u64,
         values: *mut f32,
-        values_len: usize,
+        values_len: u64,
         folds: *mut u32,
-        folds_len: usize,
-    ) -> LaxRun;
+        folds_len: u64,
+        out: &mut LaxRun,
+    ) -> u32;
 
-    pub fn lax_track_new() -> LaxTrack;
-    pub fn lax_track_push_frame(t: LaxTrack, frame: LaxKeyframe) -> LaxTrackChanged;
-    pub fn lax_track_looping(t: LaxTrack, mode: LaxLoop) -> LaxTrackChanged;
-    pub fn lax_track_value_at(t: LaxTrack, secs: f32) -> LaxFound;
-    pub fn lax_track_value(t: LaxTrack) -> LaxFound;
+    pub safe fn lax_track_new(t: &mut LaxTrack) -> u32;
+    pub safe fn lax_track_push_frame(t: &mut LaxTrack, frame: &LaxKeyframe) -> u32;
+    pub safe fn lax_track_looping(t: &mut LaxTrack, mode: &LaxLoop) -> u32;
+    pub safe fn lax_track_value_at(t: &LaxTrack, secs: f32, out: &mut LaxFound) -> u32;
+    pub safe fn lax_track_value(t: &LaxTrack, out: &mut LaxFound) -> u32;
     pub fn lax_track_values_at(
-        t: LaxTrack,
+        t: &LaxTrack,
         times: *const f32,
-        times_len: usize,
+        times_len: u64,
         out: *mut f32,
-        out_len: usize,
-    ) -> LaxFilled;
-    pub fn lax_track_active_time(t: LaxTrack) -> LaxValue;
-    pub fn lax_track_duration(t: LaxTrack) -> LaxValue;
-    pub fn lax_track_playback_duration(t: LaxTrack) -> LaxValue;
-    pub fn lax_track_progress(t: LaxTrack) -> LaxValue;
-    pub fn lax_track_is_complete(t: LaxTrack) -> LaxFlag;
-    pub fn lax_track_reset(t: LaxTrack) -> LaxTrackChanged;
-    pub fn lax_track_seek_to(t: LaxTrack, progress: f32) -> LaxTrackChanged;
-    pub fn lax_track_update(t: LaxTrack, step: f32) -> LaxTrackUpdated;
+        out_len: u64,
+        filled: &mut LaxFilled,
+    ) -> u32;
+    pub safe fn lax_track_active_time(t: &LaxTrack, out: &mut f32) -> u32;
+    pub safe fn lax_track_duration(t: &LaxTrack, out: &mut f32) -> u32;
+    pub safe fn lax_track_playback_duration(t: &LaxTrack, out: &mut f32) -> u32;
+    pub safe fn lax_track_progress(t: &LaxTrack, out: &mut f32) -> u32;
+    pub safe fn lax_track_is_complete(t: &LaxTrack, out: &mut u32) -> u32;
+    pub safe fn lax_track_reset(t: &mut LaxTrack) -> u32;
+    pub safe fn lax_track_seek_to(t: &mut LaxTrack, progress: f32) -> u32;
+    pub safe fn lax_track_update(t: &mut LaxTrack, step: f32, running: &mut u32) -> u32;
 
-    pub fn lax_log_head(buffer: *mut u8, buffer_len: usize) -> LaxLogged;
-    pub fn lax_log_record(buffer: *mut u8, buffer_len: usize, written: usize, event: LaxEvent) -> LaxLogged;
+    pub fn lax_log_head(buffer: *mut u8, buffer_len: u64, written: &mut u64) -> u32;
+    pub fn lax_log_record(buffer: *mut u8, buffer_len: u64, written: &mut u64, event: &LaxEvent) -> u32;
     pub fn lax_log_replay(
-        t: LaxTween,
+        t: &mut LaxTween,
         log: *const u8,
-        log_len: usize,
+        log_len: u64,
         gaps: *mut u16,
-        gaps_len: usize,
-    ) -> LaxReplayed;
+        gaps_len: u64,
+        reached: &mut LaxReplay,
+    ) -> u32;
     pub fn lax_log_replay_on(
-        reached: LaxReplay,
+        t: &mut LaxTween,
         records: *const u8,
-        records_len: usize,
+        records_len: u64,
         gaps: *mut u16,
-        gaps_len: usize,
-    ) -> LaxReplayed;
+        gaps_len: u64,
+        reached: &mut LaxReplay,
+    ) -> u32;
 }

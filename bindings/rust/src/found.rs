@@ -26,8 +26,9 @@ pub struct Found {
 }
 
 impl Found {
-    pub(crate) fn from_words(w: ffi::LaxFound) -> Result<Found, Refusal> {
-        let found = Found { value: w.value, settled: w.settled != 0, xs: w.xs, derivatives: w.derivatives };
-        Refusal::or(w.number, found)
+    /// What the call puts into the place that it is lent.
+    pub(crate) fn of(call: impl FnOnce(&mut ffi::LaxFound) -> u32) -> Result<Found, Refusal> {
+        let w = Refusal::or_lent(call)?;
+        Ok(Found { value: w.value, settled: w.settled != 0, xs: w.xs, derivatives: w.derivatives })
     }
 }

@@ -74,13 +74,20 @@ impl Refusal {
     pub(crate) fn or<T>(number: u32, answer: T) -> Result<T, Refusal> {
         match number {
             0 => Ok(answer),
-            n => Err(Refusal::from_number(n)),
+            _ => Err(Refusal::from_number(number)),
         }
     }
 
-    /// Of a number that the library gave, which is not 0.
+    /// A call's number, and what it puts into the place that it is lent.
+    pub(crate) fn or_lent<T: Default>(call: impl FnOnce(&mut T) -> u32) -> Result<T, Refusal> {
+        let mut place = T::default();
+        let number = call(&mut place);
+        Refusal::or(number, place)
+    }
+
+    /// Of what a call of the library returned, which is not 0: the number is its low byte.
     pub(crate) fn from_number(number: u32) -> Refusal {
-        Refusal::try_from(number)
+        Refusal::try_from(number & 0xff)
             .unwrap_or_else(|no| unreachable!("this crate gives the library no unknown word: {no}"))
     }
 }

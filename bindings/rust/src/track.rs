@@ -49,7 +49,11 @@ impl Track {
 
     /// No frames, `Once`.
     pub fn new() -> Track {
-        Track { words: unsafe { ffi::lax_track_new() } }
+        let frames = [ffi::LaxKeyframe::default(); ffi::FRAMES];
+        let looping = ffi::LaxLoop::default();
+        let mut words = ffi::LaxTrack { frames, count: 0, elapsed: 0.0, looping, loop_count: 0, complete: 0 };
+        ffi::lax_track_new(&mut words);
+        Track { words }
     }
 
     /// A track with these parts, as an archive has them. More than 64 frames are refused with 4.
@@ -123,26 +127,24 @@ impl Track {
     /// # Ok::<(), Refusal>(())
     /// ```
     pub fn push_frame(&mut self, frame: Keyframe) -> Result<&mut Track, Refusal> {
-        let a = unsafe { ffi::lax_track_push_frame(self.words, frame.words()) };
-        self.take(a)
+        self.change(|t| ffi::lax_track_push_frame(t, &frame.words()))
     }
 
     /// Another mode. Clears completion. Refused: 11 for passes or a total beyond its limit.
     pub fn looping(&mut self, mode: Loop) -> Result<&mut Track, Refusal> {
-        let a = unsafe { ffi::lax_track_looping(self.words, mode.words()) };
-        self.take(a)
+        self.change(|t| ffi::lax_track_looping(t, &mode.words()))
     }
 
     /// The value at so many seconds, and the search behind its easing. NaN and what is below 0
     /// count as 0; from the last frame on it is the last value. Refused: 10 where there are no
     /// frames.
     pub fn value_at(&self, secs: f32) -> Result<Found, Refusal> {
-        Found::from_words(unsafe { ffi::lax_track_value_at(self.words, secs) })
+        Found::of(|out| ffi::lax_track_value_at(&self.words, secs, out))
     }
 
     /// The same at the active time. Refused: 10 where there are no frames.
     pub fn value(&self) -> Result<Found, Refusal> {
-        Found::from_words(unsafe { ffi::lax_track_value(self.words) })
+        Found::of(|out| ffi::lax_track_value(&self.words, out))
     }
 
     /// The values at many times, and how many of them are not settled. What lies behind the front
@@ -161,10 +163,13 @@ impl Track {
     /// # Ok::<(), laxombiit::Refusal>(())
     /// ```
     pub fn values_at<'a>(&self, times: &[f32], out: &'a mut [f32]) -> Result<Filled<'a>, Refusal> {
-        let a = unsafe {
-            ffi::lax_track_values_at(self.words, times.as_ptr(), times.len(), out.as_mut_ptr(), out.len())
-        };
-        Refusal::or(a.number, Filled { values: &mut out[..a.filled], unsettled: a.unsettled })
+        let (places, room) = (out.as_mut_ptr(), out.len() as u64);
+        // SAFETY: each pointer and its length are those of one slice; the library reads within the first
+        // and writes within the second.
+        let filled = Refusal::or_lent(|filled: &mut ffi::LaxFilled| unsafe {
+            ffi::lax_track_values_at(&self.words, times.as_ptr(), times.len() as u64, places, room, filled)
+        })?;
+        Ok(Filled { values: &mut out[..filled.filled as usize], unsettled: filled.unsettled as usize })
     }
 
     /// Moves on by `step` seconds, and says whether the track still runs. NaN and what is below 0
@@ -184,52 +189,44 @@ impl Track {
     /// # Ok::<(), laxombiit::Refusal>(())
     /// ```
     pub fn update(&mut self, step: f32) -> Result<bool, Refusal> {
-        let a = unsafe { ffi::lax_track_update(self.words, step) };
-        let running = Refusal::or(a.number, a.running != 0)?;
-        self.words = a.track;
-        Ok(running)
+        let running = Refusal::or_lent(|out| ffi::lax_track_update(&mut self.words, step, out))?;
+        Ok(running != 0)
     }
 
     /// Where in a pass, in seconds; 0 without frames.
     pub fn active_time(&self) -> Result<f32, Refusal> {
-        let a = unsafe { ffi::lax_track_active_time(self.words) };
-        Refusal::or(a.number, a.value)
+        Refusal::or_lent(|out| ffi::lax_track_active_time(&self.words, out))
     }
 
     /// One pass: the last frame's time, or 0 without frames.
     pub fn duration(&self) -> Result<f32, Refusal> {
-        let a = unsafe { ffi::lax_track_duration(self.words) };
-        Refusal::or(a.number, a.value)
+        Refusal::or_lent(|out| ffi::lax_track_duration(&self.words, out))
     }
 
     /// All passes; infinity in the modes without an end.
     pub fn playback_duration(&self) -> Result<f32, Refusal> {
-        let a = unsafe { ffi::lax_track_playback_duration(self.words) };
-        Refusal::or(a.number, a.value)
+        Refusal::or_lent(|out| ffi::lax_track_playback_duration(&self.words, out))
     }
 
     /// How far along from 0 to 1: in all passes, or in this one where there is no end.
     pub fn progress(&self) -> Result<f32, Refusal> {
-        let a = unsafe { ffi::lax_track_progress(self.words) };
-        Refusal::or(a.number, a.value)
+        Refusal::or_lent(|out| ffi::lax_track_progress(&self.words, out))
     }
 
     /// Whether playback is over; true also with fewer than two frames.
     pub fn is_complete(&self) -> Result<bool, Refusal> {
-        let a = unsafe { ffi::lax_track_is_complete(self.words) };
-        Refusal::or(a.number, a.flag != 0)
+        let complete = Refusal::or_lent(|out| ffi::lax_track_is_complete(&self.words, out))?;
+        Ok(complete != 0)
     }
 
     /// Back to the start.
     pub fn reset(&mut self) -> Result<(), Refusal> {
-        let a = unsafe { ffi::lax_track_reset(self.words) };
-        self.take(a).map(drop)
+        self.change(|t| ffi::lax_track_reset(t)).map(drop)
     }
 
     /// To a place from 0 to 1, measured as `progress` is. Refused: 1 where it is NaN.
     pub fn seek_to(&mut self, progress: f32) -> Result<(), Refusal> {
-        let a = unsafe { ffi::lax_track_seek_to(self.words, progress) };
-        self.take(a).map(drop)
+        self.change(|t| ffi::lax_track_seek_to(t, progress)).map(drop)
     }
 
     /// The frames, by time.
@@ -257,10 +254,9 @@ impl Track {
         self.words.complete != 0
     }
 
-    fn take(&mut self, a: ffi::LaxTrackChanged) -> Result<&mut Track, Refusal> {
-        Refusal::or(a.number, ())?;
-        self.words = a.track;
-        Ok(self)
+    /// A refused call changes no word.
+    fn change(&mut self, call: impl FnOnce(&mut ffi::LaxTrack) -> u32) -> Result<&mut Track, Refusal> {
+        Refusal::or(call(&mut self.words), self)
     }
 }
 

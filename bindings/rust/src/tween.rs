@@ -115,72 +115,66 @@ impl Tween {
     /// One second, linear, no delay, scale 1, once; running from its start. Set the fields that
     /// are to be otherwise; with a delay, `reset` then makes it idle.
     pub fn new(start: f32, end: f32) -> Tween {
-        Tween::from_words(unsafe { ffi::lax_tween_new(start, end) })
+        let mut words = ffi::LaxTween::default();
+        ffi::lax_tween_new(&mut words, start, end);
+        Tween::from_words(words)
     }
 
     /// The value at this time, and the search behind its easing.
     pub fn value(&self) -> Result<Found, Refusal> {
-        Found::from_words(unsafe { ffi::lax_tween_value(self.words()) })
+        Found::of(|out| ffi::lax_tween_value(&self.words(), out))
     }
 
     /// How far along in the pass under way, from 0 to 1.
     pub fn progress(&self) -> Result<f32, Refusal> {
-        let a = unsafe { ffi::lax_tween_progress(self.words()) };
-        Refusal::or(a.number, a.value)
+        Refusal::or_lent(|out| ffi::lax_tween_progress(&self.words(), out))
     }
 
     /// The same after the easing, and the search behind it.
     pub fn eased_progress(&self) -> Result<Found, Refusal> {
-        Found::from_words(unsafe { ffi::lax_tween_eased_progress(self.words()) })
+        Found::of(|out| ffi::lax_tween_eased_progress(&self.words(), out))
     }
 
     /// What moves.
     pub fn snapshot(&self) -> Result<TweenSnapshot, Refusal> {
-        let a = unsafe { ffi::lax_tween_snapshot(self.words()) };
-        let now = TweenSnapshot {
-            elapsed: a.elapsed,
-            delay_elapsed: a.delay_elapsed,
-            loop_count: a.loop_count,
-            ping_pong_reverse: a.ping_pong_reverse != 0,
-            state: TweenState::from_word(a.state),
-        };
-        Refusal::or(a.number, now)
+        let now = Refusal::or_lent(|out| ffi::lax_tween_snapshot(&self.words(), out))?;
+        Ok(TweenSnapshot {
+            elapsed: now.elapsed,
+            delay_elapsed: now.delay_elapsed,
+            loop_count: now.loop_count,
+            ping_pong_reverse: now.ping_pong_reverse != 0,
+            state: TweenState::from_word(now.state),
+        })
     }
 
     /// The delay and all passes; infinity in the modes without an end.
     pub fn playback_duration(&self) -> Result<f32, Refusal> {
-        let a = unsafe { ffi::lax_tween_playback_duration(self.words()) };
-        Refusal::or(a.number, a.value)
+        Refusal::or_lent(|out| ffi::lax_tween_playback_duration(&self.words(), out))
     }
 
     /// Back to the start of the delay.
     pub fn reset(&mut self) -> Result<(), Refusal> {
-        let a = unsafe { ffi::lax_tween_reset(self.words()) };
-        self.take(a)
+        self.change(|t| ffi::lax_tween_reset(t))
     }
 
     /// To a place from 0 to 1 in the pass under way. Refused: 1 where it is NaN.
     pub fn seek(&mut self, progress: f32) -> Result<(), Refusal> {
-        let a = unsafe { ffi::lax_tween_seek(self.words(), progress) };
-        self.take(a)
+        self.change(|t| ffi::lax_tween_seek(t, progress))
     }
 
     /// Exchanges `start` and `end`, and mirrors `elapsed`.
     pub fn reverse(&mut self) -> Result<(), Refusal> {
-        let a = unsafe { ffi::lax_tween_reverse(self.words()) };
-        self.take(a)
+        self.change(|t| ffi::lax_tween_reverse(t))
     }
 
     /// Acts on a running tween alone.
     pub fn pause(&mut self) -> Result<(), Refusal> {
-        let a = unsafe { ffi::lax_tween_pause(self.words()) };
-        self.take(a)
+        self.change(|t| ffi::lax_tween_pause(t))
     }
 
     /// Acts on a paused tween alone.
     pub fn resume(&mut self) -> Result<(), Refusal> {
-        let a = unsafe { ffi::lax_tween_resume(self.words()) };
-        self.take(a)
+        self.change(|t| ffi::lax_tween_resume(t))
     }
 
     /// Moves on by `step` seconds; NaN and what is below 0 count as 0. Refused, and then
@@ -196,11 +190,11 @@ impl Tween {
     /// # Ok::<(), Refusal>(())
     /// ```
     pub fn update(&mut self, step: f32) -> Result<Updated, Refusal> {
-        let a = unsafe { ffi::lax_tween_update(self.words(), step) };
-        let report = Updated { folds: a.folds, running: a.running != 0 };
-        let answer = Refusal::or(a.number, report)?;
-        *self = Tween::from_words(a.tween);
-        Ok(answer)
+        let mut words = self.words();
+        let made =
+            Refusal::or_lent(|out: &mut ffi::LaxUpdated| ffi::lax_tween_update(&mut words, step, out))?;
+        self.take(&words);
+        Ok(Updated { folds: made.folds, running: made.running != 0 })
     }
 
     /// Many updates in one call: the value after each step goes into `values`, its folds into
@@ -218,28 +212,43 @@ impl Tween {
     /// assert_eq!((values, folds), ([2.0, 6.0, 4.0], [0, 0, 1]));
     /// ```
     pub fn run(&mut self, steps: &[f32], values: &mut [f32], folds: &mut [u32]) -> Result<Ran, Stopped> {
-        let a = unsafe {
+        let (mut words, mut run) = (self.words(), ffi::LaxRun::default());
+        // SAFETY: each pointer and its length are those of one slice; the library reads within the first
+        // and writes within the others.
+        let number = unsafe {
             ffi::lax_tween_run(
-                self.words(),
+                &mut words,
                 steps.as_ptr(),
-                steps.len(),
+                steps.len() as u64,
                 values.as_mut_ptr(),
-                values.len(),
+                values.len() as u64,
                 folds.as_mut_ptr(),
-                folds.len(),
+                folds.len() as u64,
+                &mut run,
             )
         };
-        *self = Tween::from_words(a.tween);
-        match a.number {
-            0 => Ok(Ran { unsettled: a.unsettled }),
-            n => Err(Stopped { place: a.done, unsettled: a.unsettled, refusal: Refusal::from_number(n) }),
-        }
+        self.take(&words);
+        let (place, unsettled) = (run.done as usize, run.unsettled as usize);
+        let ran = Refusal::or(number, Ran { unsettled });
+        ran.map_err(|refusal| Stopped { place, unsettled, refusal })
     }
 
-    fn take(&mut self, a: ffi::LaxChanged) -> Result<(), Refusal> {
-        Refusal::or(a.number, ())?;
-        *self = Tween::from_words(a.tween);
+    fn change(&mut self, call: impl FnOnce(&mut ffi::LaxTween) -> u32) -> Result<(), Refusal> {
+        let mut words = self.words();
+        Refusal::or(call(&mut words), ())?;
+        self.take(&words);
         Ok(())
+    }
+
+    /// What a call may change; the other words are those that it was lent.
+    pub(crate) fn take(&mut self, w: &ffi::LaxTween) {
+        self.start = w.start;
+        self.end = w.end;
+        self.elapsed = w.elapsed;
+        self.delay_elapsed = w.delay_elapsed;
+        self.state = TweenState::from_word(w.state);
+        self.loop_count = w.loop_count;
+        self.ping_pong_reverse = w.ping_pong_reverse != 0;
     }
 
     pub(crate) fn words(&self) -> ffi::LaxTween {

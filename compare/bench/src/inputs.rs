@@ -1,8 +1,8 @@
 //! The inputs, from a fixed seed: the same for both sides, and in every run.
-use crate::ffi::lax_tween_update;
+use crate::ffi::{lax_tween_update, log_head, log_record};
 use crate::meaning::easing_words;
 use crate::rules::{FOREVER, RUNNING};
-use crate::words::{LaxKeyframe, LaxLoop, LaxTrack, LaxTween, UpdatedPlace};
+use crate::words::{LaxEvent, LaxKeyframe, LaxLoop, LaxTrack, LaxTween, UpdatedPlace};
 use oracle::Easing;
 
 struct Chance(u64);
@@ -43,10 +43,11 @@ pub fn tween(easing: &Easing, duration: f32, elapsed: f32) -> LaxTween {
     }
 }
 
-/// A linear tween, and steps each of which folds it so many times. The first leaves it at 0.
-pub fn stepping(folds: u32, count: usize) -> (LaxTween, Vec<f32>) {
+/// A linear tween in a mode, and steps each of which folds it so many times. The first leaves it at 0.
+pub fn stepping(mode: u32, folds: u32, count: usize) -> (LaxTween, Vec<f32>) {
     let duration = if folds == 0 { count as f32 } else { 1.0 };
-    let first = tween(&Easing::Linear, duration, 0.0);
+    let looping = LaxLoop { mode, passes: 60_000 };
+    let first = LaxTween { looping, ..tween(&Easing::Linear, duration, 0.0) };
     let (mut chance, mut moving) = (Chance::new(), first);
     let steps = (0..count).map(|_| {
         let step = match folds {
@@ -60,6 +61,17 @@ pub fn stepping(folds: u32, count: usize) -> (LaxTween, Vec<f32>) {
     });
     let steps = steps.collect();
     (first, steps)
+}
+
+/// A log of so many steps, below half a second each.
+pub fn log(records: usize) -> Vec<u8> {
+    let mut log = vec![0; 5 + 8 * records];
+    let mut written = 0;
+    log_head(&mut log, &mut written);
+    for step in below(0.5, records) {
+        log_record(&mut log, &mut written, &LaxEvent { kind: 1, step });
+    }
+    log
 }
 
 /// So many frames, about a second apart, the first at 0.

@@ -5,6 +5,7 @@ mod measure;
 mod report;
 mod rust;
 mod side;
+mod stack;
 
 #[allow(dead_code)]
 #[path = "../../runs/src/ffi.rs"]
@@ -25,10 +26,16 @@ use std::env;
 use std::process::ExitCode;
 use std::time::{Duration, Instant};
 
-const USAGE: &str = "bench [--quick] [WORD ..]    the cases whose names have every word";
+const USAGE: &str = "\
+bench [--quick] [WORD ..]    the cases whose names have every word
+bench --stack                how deep the calls go";
 
 fn main() -> ExitCode {
     let (options, words): (Vec<_>, Vec<_>) = env::args().skip(1).partition(|word| word.starts_with("--"));
+    if options == ["--stack"] && words.is_empty() {
+        stack::print();
+        return ExitCode::SUCCESS;
+    }
     if options.iter().any(|option| option != "--quick") {
         eprintln!("{USAGE}");
         return ExitCode::from(2);

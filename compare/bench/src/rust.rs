@@ -1,6 +1,7 @@
 //! animato's calls, and a log's, which it has not. None is inlined where it is called, so that a call stays a call, as it does from C.
 use crate::words::LaxEvent;
 use oracle::{Easing, KeyframeTrack, Tween, Update};
+use std::mem;
 
 #[inline(never)]
 pub fn apply(easing: &Easing, t: f32) -> f32 {
@@ -20,6 +21,17 @@ pub fn update(tween: &mut Tween<f32>, step: f32) -> bool {
 #[inline(never)]
 pub fn value_at(track: &KeyframeTrack<f32>, secs: f32) -> Option<f32> {
     track.value_at(secs)
+}
+
+#[inline(never)]
+pub fn track_update(track: &mut KeyframeTrack<f32>, step: f32) -> bool {
+    track.update(step)
+}
+
+/// animato's push takes the track and hands it back.
+#[inline(never)]
+pub fn push(track: &mut KeyframeTrack<f32>, time: f32, value: f32) {
+    *track = mem::take(track).push(time, value);
 }
 
 /// animato has no call for a run of steps.

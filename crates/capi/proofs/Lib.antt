@@ -1,2 +1,3 @@
--- Laws that the functions' proofs cite.
+mod Quick
+mod Runs
 pub mod Tracked

@@ -21,15 +21,18 @@ pub record Answer (A : Type 0) : Type 0 where
   pub number : ℕ
   pub left : A
 
+abbrev pub answering : {A : Type 0} → ℕ → A → Answer A
+answering n a = record { number = n; left = a }
+
 abbrev pub accepted : {A : Type 0} → A → Answer A
-accepted a = record { number = 0; left = a }
+accepted a = answering 0 a
 
 abbrev pub refused : {A : Type 0} → A → Refusal → Answer A
-refused came r = record { number = numberOf r; left = came }
+refused came r = answering (numberOf r) came
 
 -- a word is no kind, no mode, no state
 abbrev pub unknown : {A : Type 0} → A → Answer A
-unknown came = record { number = unknownWord; left = came }
+unknown came = answering unknownWord came
 
 -- four words: the value's bits, whether it is settled, and how many the search evaluated
 abbrev pub foundWords : Found → List ℕ

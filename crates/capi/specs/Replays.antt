@@ -7,11 +7,12 @@ use Rattle.steps.specs.Course.{outcomeNumber, over}
 use Rattle.reader.specs.declared.gaps.Last.{Last}
 use Rattle.reader.specs.declared.gaps.Last.the-variants.{Unread, Number}
 use Rattle.reader.specs.declared.hear.Replay.{Replay}
+use Rattle.reader.specs.declared.read.Replayed.{Replayed}
 use Rattle.reader.specs.Reading.{Reading, readOnOf, replayOf, answerOf}
 use Rattle.words.specs.Lent.{wordAt, tweenInto}
 use Rattle.capi.specs.declared.replays.LastRead.{LastRead}
 use Rattle.capi.specs.declared.replays.LastRead.the-variants.{Known, Unknown}
-use Rattle.capi.specs.Answers.{Answer, unknown}
+use Rattle.capi.specs.Answers.{Answer, answering, unknown}
 use Rattle.capi.specs.Tweens.{onTween, idle}
 
 -- a number of 16 bits, or 65,536 where no record was read
@@ -32,19 +33,21 @@ abbrev pub reachedWords : Replay → ℕ → List ℕ
 reachedWords s done = s .missing ∷ s .folds ∷ lastWord (s .last) ∷ done ∷ []
 
 -- a replay that stops at a record leaves what the records before it made
+unfoldable pub replayedWords : List ℕ → Replayed → List ℕ
+replayedWords ws r = cond (eqb (r .done) 0) ws (tweenInto ws (r .reached .tween))
+
+unfoldable pub replayedReached : List ℕ → Replayed → List ℕ
+replayedReached reached r = cond (idle (r .done) (outcomeNumber (r .outcome))) reached (reachedWords (r .reached) (r .done))
+
 unfoldable pub replayedIn : Replaying → Reading → Answer Replaying
 replayedIn came reading =
     let r = answerOf reading in
-    let number = outcomeNumber (r .outcome) in
-    record {
-      number = number;
-      left =
-        record {
-          words = cond (eqb (r .done) 0) (came .words) (tweenInto (came .words) (r .reached .tween));
-          gaps = over (reading .gaps) (came .gaps);
-          reached = cond (idle (r .done) number) (came .reached) (reachedWords (r .reached) (r .done));
-        };
-    }
+    answering (outcomeNumber (r .outcome))
+    (record {
+      words = replayedWords (came .words) r;
+      gaps = over (reading .gaps) (came .gaps);
+      reached = replayedReached (came .reached) r;
+    })
 
 unfoldable pub laxReplay : List ℕ → List ℕ → List ℕ → List ℕ → Answer Replaying
 laxReplay ws log gaps reached =

@@ -15,6 +15,7 @@ use Rattle.tween.specs.declared.answers.Updated.the-variants as updated
 use Rattle.tween.specs.Parts.{newOf}
 use Rattle.tween.specs.Calls.{progressOf, easedProgressOf, valueOf, snapshotOf, playbackDurationOf, resetOf, seekOf, reverseOf, pauseOf, resumeOf}
 use Rattle.tween.specs.Update.{updateOf}
+use Rattle.steps.specs.declared.run.Run.{Run}
 use Rattle.steps.specs.Course.{Course, runOf, answerOf, outcomeNumber, over}
 use Rattle.words.specs.declared.tweens.LaxTween.{LaxTween}
 use Rattle.words.specs.declared.tweens.TweenRead.{TweenRead}
@@ -22,7 +23,7 @@ use Rattle.words.specs.declared.tweens.TweenRead.the-variants.{Known, Unknown}
 use Rattle.words.specs.Modes.{stateWord, flagWord}
 use Rattle.words.specs.Tweens.{tweenFrom, tweenWords}
 use Rattle.words.specs.Lent.{tweenIn, tweenInto}
-use Rattle.capi.specs.Answers.{Answer, accepted, refused, unknown, foundIn, secondsIn, progressIn}
+use Rattle.capi.specs.Answers.{Answer, answering, accepted, refused, unknown, foundIn, secondsIn, progressIn}
 use Rattle.capi.specs.Easings.{easingList}
 
 abbrev pub byTween : {A : Type 0} → TweenRead → A → (Tween → Answer A) → Answer A
@@ -111,20 +112,22 @@ abbrev pub idle : ℕ → ℕ → Bool
 idle done number = eqb done 0 && not (eqb number 0)
 
 -- a run that stops at a step leaves what the steps before it made
+unfoldable pub ranWords : List ℕ → Run → List ℕ
+ranWords ws run = cond (eqb (run .done) 0) ws (tweenInto ws (run .tween))
+
+unfoldable pub ranOut : List ℕ → Run → List ℕ
+ranOut out run = cond (idle (run .done) (outcomeNumber (run .outcome))) out (run .done ∷ run .unsettled ∷ [])
+
 unfoldable pub ranIn : Running → Course → Answer Running
 ranIn came course =
     let run = answerOf course in
-    let number = outcomeNumber (run .outcome) in
-    record {
-      number = number;
-      left =
-        record {
-          words = cond (eqb (run .done) 0) (came .words) (tweenInto (came .words) (run .tween));
-          values = over (course .values) (came .values);
-          folds = over (course .folds) (came .folds);
-          out = cond (idle (run .done) number) (came .out) (run .done ∷ run .unsettled ∷ []);
-        };
-    }
+    answering (outcomeNumber (run .outcome))
+    (record {
+      words = ranWords (came .words) run;
+      values = over (course .values) (came .values);
+      folds = over (course .folds) (came .folds);
+      out = ranOut (came .out) run;
+    })
 
 unfoldable pub laxTweenRun : List ℕ → List Float → List Float → List ℕ → List ℕ → Answer Running
 laxTweenRun ws steps values folds out =

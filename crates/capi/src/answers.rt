@@ -1,19 +1,24 @@
 // What a call writes into the places that it is lent, and the number that it answers. A refused call
 // writes none of them.
+ghost use mathlib.Core.Path.{_≡_};
+ghost use Rattle.bezier.specs.Bezier.{plainOf};
+ghost use Rattle.steps.specs.Course.{outcomeNumber};
+ghost use Rattle.capi.specs.Answers.{answering, accepted, foundWords, foundIn, secondsIn, progressIn, flagIn};
+ghost use Rattle.capi.specs.Tweens.{snapshotIn, changedIn};
 use easing::Eased;
 use steps::Outcome;
 use tween::Changed;
 use tween::Snapped;
 use units::InProgress;
 use units::InSeconds;
+pub use words::UNKNOWN_WORD;
 use words::flag_word;
 use words::state_word;
 use words::store_tween;
 
-pub use words::UNKNOWN_WORD;
-
 // The value's bits, whether it is settled, and how many the search evaluated.
 pub fn put_found(a: Eased, out: &mut [u32; 4]) -> u32
+    ensures { λ r. ⌜ answering r (now (out .exit)) ≡ foundIn (now (out .entry)) a ⌝ }
 {
     match a {
         Eased::Value(found) => {
@@ -29,13 +34,23 @@ pub fn put_found(a: Eased, out: &mut [u32; 4]) -> u32
     }
 }
 
+// A value with no search.
+pub fn put_plain(value: f32, out: &mut [u32; 4]) -> u32
+    ensures { λ r. ⌜ answering r (now (out .exit)) ≡ accepted (foundWords (plainOf value)) ⌝ }
+{
+    *out = [math::bits(value), 1, 0, 0];
+    0
+}
+
 pub fn put_flag(b: bool, out: &mut u32) -> u32
+    ensures { λ r. ⌜ answering r (now (out .exit)) ≡ flagIn b ⌝ }
 {
     *out = flag_word(b);
     0
 }
 
 pub fn put_seconds(a: InSeconds, out: &mut f32) -> u32
+    ensures { λ r. ⌜ answering r (now (out .exit)) ≡ secondsIn (now (out .entry)) a ⌝ }
 {
     match a {
         InSeconds::Seconds(s) => {
@@ -47,6 +62,7 @@ pub fn put_seconds(a: InSeconds, out: &mut f32) -> u32
 }
 
 pub fn put_progress(a: InProgress, out: &mut f32) -> u32
+    ensures { λ r. ⌜ answering r (now (out .exit)) ≡ progressIn (now (out .entry)) a ⌝ }
 {
     match a {
         InProgress::Progress(p) => {
@@ -58,6 +74,7 @@ pub fn put_progress(a: InProgress, out: &mut f32) -> u32
 }
 
 pub fn put_snapshot(a: Snapped, out: &mut [u32; 5]) -> u32
+    ensures { λ r. ⌜ answering r (now (out .exit)) ≡ snapshotIn (now (out .entry)) a ⌝ }
 {
     match a {
         Snapped::Snapshot(now) => {
@@ -76,6 +93,7 @@ pub fn put_snapshot(a: Snapped, out: &mut [u32; 5]) -> u32
 }
 
 pub fn put_tween(a: Changed, w: &mut [u32; 18]) -> u32
+    ensures { λ r. ⌜ answering r (now (w .exit)) ≡ changedIn (now (w .entry)) a ⌝ }
 {
     match a {
         Changed::Done(u) => {
@@ -87,6 +105,7 @@ pub fn put_tween(a: Changed, w: &mut [u32; 18]) -> u32
 }
 
 pub fn outcome_number(outcome: Outcome) -> u32
+    ensures { λ r. ⌜ r ≡ outcomeNumber outcome ⌝ }
 {
     match outcome {
         Outcome::Finished => 0,

@@ -1,4 +1,8 @@
 // The calls that read an event log.
+ghost use mathlib.Core.Path.{_≡_};
+ghost use Rattle.steps.specs.Course.{outcomeNumber};
+ghost use Rattle.capi.specs.Answers.{answering};
+ghost use Rattle.capi.specs.Replays.{lastFrom, lastWord, replayedWords, replayedReached, laxReplay, laxReplayOn};
 use crate::answers::UNKNOWN_WORD;
 use crate::answers::outcome_number;
 use reader::Last;
@@ -18,6 +22,7 @@ pub enum LastRead {
 
 // The number of the last record that was read, 65,536 where none was.
 fn last_of(last: u64) -> LastRead
+    ensures { λ r. ⌜ r ≡ lastFrom last ⌝ }
 {
     if last < 65536 {
         return LastRead::Known(Last::Number(last as u16));
@@ -29,6 +34,7 @@ fn last_of(last: u64) -> LastRead
 }
 
 fn last_word(last: Last) -> u64
+    ensures { λ r. ⌜ r ≡ lastWord last ⌝ }
 {
     match last {
         Last::Unread => 65536,
@@ -39,6 +45,9 @@ fn last_word(last: Last) -> u64
 // reached: the records missing, the folds, the last number, and how many records were read. Where
 // none was read and the number is not 0, nothing is written.
 fn put_replayed(replayed: Replayed, w: &mut [u32; 18], reached: &mut [u64; 4]) -> u32
+    ensures number { λ r. ⌜ r ≡ outcomeNumber (replayed .outcome) ⌝ }
+    ensures words { λ _. ⌜ now (w .exit) ≡ replayedWords (now (w .entry)) replayed ⌝ }
+    ensures place { λ _. ⌜ now (reached .exit) ≡ replayedReached (now (reached .entry)) replayed ⌝ }
 {
     let outcome = replayed.outcome;
     let number = outcome_number(outcome);
@@ -46,7 +55,12 @@ fn put_replayed(replayed: Replayed, w: &mut [u32; 18], reached: &mut [u64; 4]) -
     let last = now.last;
     if replayed.done == 0 {
         if number == 0 {
-            *reached = [now.missing, now.folds, last_word(last), 0];
+            *reached = [
+                now.missing,
+                now.folds,
+                last_word(last),
+                replayed.done as u64,
+            ];
         }
         return number;
     }
@@ -68,6 +82,7 @@ pub extern "C" fn lax_log_replay(
     gaps: &mut [u16],
     reached: &mut [u64; 4],
 ) -> u32
+    ensures { λ r. ⌜ answering r (record { words = now (w .exit); gaps = now (gaps .exit); reached = now (reached .exit) }) ≡ laxReplay (now (w .entry)) (now (log .entry)) (now (gaps .entry)) (now (reached .entry)) ⌝ }
 {
     match tween_of(tween_in(w)) {
         TweenRead::Known(tween) => put_replayed(replay(tween, log, gaps), w, reached),
@@ -82,6 +97,7 @@ pub extern "C" fn lax_log_replay_on(
     gaps: &mut [u16],
     reached: &mut [u64; 4],
 ) -> u32
+    ensures { λ r. ⌜ answering r (record { words = now (w .exit); gaps = now (gaps .exit); reached = now (reached .exit) }) ≡ laxReplayOn (now (w .entry)) (now (records .entry)) (now (gaps .entry)) (now (reached .entry)) ⌝ }
 {
     let TweenRead::Known(tween) = tween_of(tween_in(w)) else {
         return UNKNOWN_WORD;

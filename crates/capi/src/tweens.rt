@@ -1,14 +1,25 @@
 // The calls of a tween, lent as 18 words.
+ghost use mathlib.Core.Path.{_≡_};
+ghost use Rattle.capi.specs.Answers.{answering, accepted};
+ghost use Rattle.capi.specs.Tweens.{laxTweenNew, laxTweenValue, laxTweenProgress, laxTweenEasedProgress, laxTweenSnapshot, laxTweenPlaybackDuration, laxTweenReset, laxTweenSeek, laxTweenReverse, laxTweenPause, laxTweenResume, laxTweenUpdate, ranWords, ranOut, laxTweenRun};
+ghost use Rattle.steps.specs.Course.{outcomeNumber};
 use crate::answers::UNKNOWN_WORD;
 use crate::answers::outcome_number;
 use crate::answers::put_found;
+use crate::answers::put_plain;
 use crate::answers::put_progress;
 use crate::answers::put_seconds;
 use crate::answers::put_snapshot;
 use crate::answers::put_tween;
+use easing::Eased;
+use steps::Run;
 use steps::run_steps;
 use tween::Tween;
 use tween::Updated;
+use tween_words::Stepped;
+use tween_words::Valued;
+use tween_words::step_on;
+use tween_words::value;
 use units::Progress;
 use words::TweenRead;
 use words::flag_word;
@@ -19,6 +30,7 @@ use words::tween_words;
 
 #[no_mangle]
 pub extern "C" fn lax_tween_new(w: &mut [u32; 18], start: f32, end: f32) -> u32
+    ensures { λ r. ⌜ answering r (now (w .exit)) ≡ accepted (laxTweenNew start end) ⌝ }
 {
     let t = tween_words(Tween::new(start, end));
     let e = t.easing;
@@ -46,8 +58,9 @@ pub extern "C" fn lax_tween_new(w: &mut [u32; 18], start: f32, end: f32) -> u32
     0
 }
 
-#[no_mangle]
-pub extern "C" fn lax_tween_value(w: &[u32; 18], out: &mut [u32; 4]) -> u32
+// By way of the library's tween.
+fn value_in(w: &[u32; 18], out: &mut [u32; 4]) -> u32
+    ensures { λ r. ⌜ answering r (now (out .exit)) ≡ laxTweenValue (now (w .entry)) (now (out .entry)) ⌝ }
 {
     match tween_of(tween_in(w)) {
         TweenRead::Known(t) => put_found(t.value(), out),
@@ -56,7 +69,19 @@ pub extern "C" fn lax_tween_value(w: &[u32; 18], out: &mut [u32; 4]) -> u32
 }
 
 #[no_mangle]
+pub extern "C" fn lax_tween_value(w: &[u32; 18], out: &mut [u32; 4]) -> u32
+    ensures { λ r. ⌜ answering r (now (out .exit)) ≡ laxTweenValue (now (w .entry)) (now (out .entry)) ⌝ }
+{
+    match value(w) {
+        Valued::Plain(v) => put_plain(v, out),
+        Valued::Searched(found) => put_found(Eased::Value(found), out),
+        Valued::Unsure => value_in(w, out),
+    }
+}
+
+#[no_mangle]
 pub extern "C" fn lax_tween_progress(w: &[u32; 18], out: &mut f32) -> u32
+    ensures { λ r. ⌜ answering r (now (out .exit)) ≡ laxTweenProgress (now (w .entry)) (now (out .entry)) ⌝ }
 {
     match tween_of(tween_in(w)) {
         TweenRead::Known(t) => put_progress(t.progress(), out),
@@ -66,6 +91,7 @@ pub extern "C" fn lax_tween_progress(w: &[u32; 18], out: &mut f32) -> u32
 
 #[no_mangle]
 pub extern "C" fn lax_tween_eased_progress(w: &[u32; 18], out: &mut [u32; 4]) -> u32
+    ensures { λ r. ⌜ answering r (now (out .exit)) ≡ laxTweenEasedProgress (now (w .entry)) (now (out .entry)) ⌝ }
 {
     match tween_of(tween_in(w)) {
         TweenRead::Known(t) => put_found(t.eased_progress(), out),
@@ -75,6 +101,7 @@ pub extern "C" fn lax_tween_eased_progress(w: &[u32; 18], out: &mut [u32; 4]) ->
 
 #[no_mangle]
 pub extern "C" fn lax_tween_snapshot(w: &[u32; 18], out: &mut [u32; 5]) -> u32
+    ensures { λ r. ⌜ answering r (now (out .exit)) ≡ laxTweenSnapshot (now (w .entry)) (now (out .entry)) ⌝ }
 {
     match tween_of(tween_in(w)) {
         TweenRead::Known(t) => put_snapshot(t.snapshot(), out),
@@ -84,6 +111,7 @@ pub extern "C" fn lax_tween_snapshot(w: &[u32; 18], out: &mut [u32; 5]) -> u32
 
 #[no_mangle]
 pub extern "C" fn lax_tween_playback_duration(w: &[u32; 18], out: &mut f32) -> u32
+    ensures { λ r. ⌜ answering r (now (out .exit)) ≡ laxTweenPlaybackDuration (now (w .entry)) (now (out .entry)) ⌝ }
 {
     match tween_of(tween_in(w)) {
         TweenRead::Known(t) => put_seconds(t.playback_duration(), out),
@@ -93,6 +121,7 @@ pub extern "C" fn lax_tween_playback_duration(w: &[u32; 18], out: &mut f32) -> u
 
 #[no_mangle]
 pub extern "C" fn lax_tween_reset(w: &mut [u32; 18]) -> u32
+    ensures { λ r. ⌜ answering r (now (w .exit)) ≡ laxTweenReset (now (w .entry)) ⌝ }
 {
     match tween_of(tween_in(w)) {
         TweenRead::Known(t) => put_tween(t.reset(), w),
@@ -102,6 +131,7 @@ pub extern "C" fn lax_tween_reset(w: &mut [u32; 18]) -> u32
 
 #[no_mangle]
 pub extern "C" fn lax_tween_seek(w: &mut [u32; 18], p: f32) -> u32
+    ensures { λ r. ⌜ answering r (now (w .exit)) ≡ laxTweenSeek (now (w .entry)) p ⌝ }
 {
     match tween_of(tween_in(w)) {
         TweenRead::Known(t) => put_tween(t.seek(Progress(p)), w),
@@ -111,6 +141,7 @@ pub extern "C" fn lax_tween_seek(w: &mut [u32; 18], p: f32) -> u32
 
 #[no_mangle]
 pub extern "C" fn lax_tween_reverse(w: &mut [u32; 18]) -> u32
+    ensures { λ r. ⌜ answering r (now (w .exit)) ≡ laxTweenReverse (now (w .entry)) ⌝ }
 {
     match tween_of(tween_in(w)) {
         TweenRead::Known(t) => put_tween(t.reverse(), w),
@@ -120,6 +151,7 @@ pub extern "C" fn lax_tween_reverse(w: &mut [u32; 18]) -> u32
 
 #[no_mangle]
 pub extern "C" fn lax_tween_pause(w: &mut [u32; 18]) -> u32
+    ensures { λ r. ⌜ answering r (now (w .exit)) ≡ laxTweenPause (now (w .entry)) ⌝ }
 {
     match tween_of(tween_in(w)) {
         TweenRead::Known(t) => put_tween(t.pause(), w),
@@ -129,6 +161,7 @@ pub extern "C" fn lax_tween_pause(w: &mut [u32; 18]) -> u32
 
 #[no_mangle]
 pub extern "C" fn lax_tween_resume(w: &mut [u32; 18]) -> u32
+    ensures { λ r. ⌜ answering r (now (w .exit)) ≡ laxTweenResume (now (w .entry)) ⌝ }
 {
     match tween_of(tween_in(w)) {
         TweenRead::Known(t) => put_tween(t.resume(), w),
@@ -136,9 +169,9 @@ pub extern "C" fn lax_tween_resume(w: &mut [u32; 18]) -> u32
     }
 }
 
-// out: the folds, and 1 where the tween is not completed.
-#[no_mangle]
-pub extern "C" fn lax_tween_update(w: &mut [u32; 18], step: f32, out: &mut [u32; 2]) -> u32
+// By way of the library's tween.
+fn update_in(w: &mut [u32; 18], step: f32, out: &mut [u32; 2]) -> u32
+    ensures { λ r. ⌜ answering r (record { words = now (w .exit); out = now (out .exit) }) ≡ laxTweenUpdate (now (w .entry)) step (now (out .entry)) ⌝ }
 {
     match tween_of(tween_in(w)) {
         TweenRead::Known(t) => match t.update(step) {
@@ -157,6 +190,39 @@ pub extern "C" fn lax_tween_update(w: &mut [u32; 18], step: f32, out: &mut [u32;
     }
 }
 
+// out: the folds, and 1 where the tween is not completed.
+#[no_mangle]
+pub extern "C" fn lax_tween_update(w: &mut [u32; 18], step: f32, out: &mut [u32; 2]) -> u32
+    ensures { λ r. ⌜ answering r (record { words = now (w .exit); out = now (out .exit) }) ≡ laxTweenUpdate (now (w .entry)) step (now (out .entry)) ⌝ }
+{
+    match step_on(w, step) {
+        Stepped::Ran { folds, running } => {
+            *out = [folds, flag_word(running)];
+            0
+        }
+        Stepped::Unsure => update_in(w, step, out),
+    }
+}
+
+fn put_run(run: Run, w: &mut [u32; 18], out: &mut [usize; 2]) -> u32
+    ensures number { λ r. ⌜ r ≡ outcomeNumber (run .outcome) ⌝ }
+    ensures words { λ _. ⌜ now (w .exit) ≡ ranWords (now (w .entry)) run ⌝ }
+    ensures counts { λ _. ⌜ now (out .exit) ≡ ranOut (now (out .entry)) run ⌝ }
+{
+    let outcome = run.outcome;
+    let number = outcome_number(outcome);
+    if run.done == 0 {
+        if number == 0 {
+            *out = [run.done, run.unsettled];
+        }
+        return number;
+    }
+    let reached = run.tween;
+    store_tween(w, reached);
+    *out = [run.done, run.unsettled];
+    number
+}
+
 // The value after each step and the folds of each go into the fronts of values and folds. out: how many
 // steps were taken, and how many of the values are not settled.
 #[no_mangle]
@@ -167,23 +233,10 @@ pub extern "C" fn lax_tween_run(
     folds: &mut [u32],
     out: &mut [usize; 2],
 ) -> u32
+    ensures { λ r. ⌜ answering r (record { words = now (w .exit); values = now (values .exit); folds = now (folds .exit); out = now (out .exit) }) ≡ laxTweenRun (now (w .entry)) (now (steps .entry)) (now (values .entry)) (now (folds .entry)) (now (out .entry)) ⌝ }
 {
     match tween_of(tween_in(w)) {
-        TweenRead::Known(t) => {
-            let run = run_steps(t, steps, values, folds);
-            let outcome = run.outcome;
-            let number = outcome_number(outcome);
-            if run.done == 0 {
-                if number == 0 {
-                    *out = [0, 0];
-                }
-                return number;
-            }
-            let reached = run.tween;
-            store_tween(w, reached);
-            *out = [run.done, run.unsettled];
-            number
-        }
+        TweenRead::Known(t) => put_run(run_steps(t, steps, values, folds), w, out),
         TweenRead::Unknown => UNKNOWN_WORD,
     }
 }

@@ -1,18 +1,19 @@
--- The test of a time, on its pattern: at most that of 16,777,216, so neither -0 nor a NaN. Assumes nothing.
+-- The test of a time, on its pattern: at most that of 16,777,216, so neither -0 nor a NaN. And no time stands before the first. Assumes nothing.
 use Prim.Native.Nat.{ℕ, _+_, _-_, _*_, _^_, _≤_, _<_}
-use native.Mathlib.Nat.{zero-add, eq-or-lt-of-le}
+use native.Mathlib.Nat.{eq-or-lt-of-le}
 use native.Mathlib.Omega.{arith}
-use mathlib.Core.Path.{_≡_, refl, sym, ap, _∙_, subst}
+use mathlib.Core.Path.{_≡_, refl, sym, ap, _∙_}
 use mathlib.Core.Logic.{⊎-elim}
-use mathlib.Core.Bool.{Bool, true, false, not, _&&_}
+use mathlib.Core.Bool.{Bool, true, false, not, _&&_, true≢false}
 use lib.Dec.{leb}
-use borrow.Author.Tests.{lt-leb, leb-true, leb-false}
-use lib.Ieee.{Float, nan, inf, fin}
+use borrow.Author.Tests.{lt-ltb, lt-leb, leb-true, leb-false}
+use lib.Ieee.{Float, nan, inf, fin, up, down, lt, ofBits}
+use lib.Ieee.Fits.{down-pos}
 use lib.Ieee.Exact.{HasValue}
-use Rattle.math.specs.Rounded.{f32, topF}
+use Rattle.math.specs.Rounded.{f32}
 use Rattle.math.proofs.Patterns.{reads-nan}
-use Rattle.math.proofs.Ordered.{unitsOf, digitsOf, value, endless, at-most}
-use Rattle.frames.specs.Limits.{isPlus, isTime}
+use Rattle.math.proofs.Ordered.{unitsOf, digitsOf, value, plain, endless, at-most}
+use Rattle.frames.specs.Limits.{isPlus, isTime, beforeAll}
 
 plus : (x : Float) (s : Bool) (a c : ℕ) → HasValue x s a c → isPlus x ≡ not s
 plus nan s a c v = absurd v
@@ -39,11 +40,8 @@ pub time-test : (n : ℕ) → n < 0x1_0000_0000 → isTime (f32 n) ≡ leb n 0x4
 unfolding isTime
 time-test n h = go (leb 0x8000_0000 n) refl
   where
-    plain : n < 0x7f80_0000 → HasValue (f32 n) false (digitsOf n * 2 ^ unitsOf n) (2 ^ 149)
-    plain k = subst (λ (z : ℕ). HasValue (f32 z) false (digitsOf n * 2 ^ unitsOf n) (2 ^ 149)) (zero-add n) (value false n k)
-
     clear : n < 0x8000_0000 → (b : Bool) → leb n 0x4b80_0000 ≡ b → isPlus (f32 n) && leb n 0x4b80_0000 ≡ b
-    clear k true e = rw e (ap (λ (b : Bool). b && true) (plus (f32 n) false (digitsOf n * 2 ^ unitsOf n) (2 ^ 149) (plain (omega (arith, leb-true n 0x4b80_0000 e)))))
+    clear k true e = rw e (ap (λ (b : Bool). b && true) (plus (f32 n) false (digitsOf n * 2 ^ unitsOf n) (2 ^ 149) (plain n (omega (arith, leb-true n 0x4b80_0000 e)))))
     clear k false e = rw e (and-none (isPlus (f32 n)))
 
     go : (s : Bool) → leb 0x8000_0000 n ≡ s → isTime (f32 n) ≡ leb n 0x4b80_0000
@@ -55,3 +53,13 @@ time-test n h = go (leb 0x8000_0000 n) refl
         let m : 0x8000_0000 + (n - 0x8000_0000) ≡ n = omega arith in
         let f : isPlus (f32 n) ≡ false = rw m at (minus (n - 0x8000_0000) (omega arith)) in
         rw (f, lt-leb n 0x4b80_0000 (omega arith)) refl
+
+above : (x : Float) (a c : ℕ) → HasValue x false a c → lt beforeAll x ≡ true
+unfolding lt ofBits
+above nan a c v = absurd v
+above (inf s) a c v = absurd v
+above (fin true m e) a c v = absurd (true≢false (v .0))
+above (fin false m e) a c v = lt-ltb 0 (1 * 1 * down e + m * up e * 1) (omega (arith, down-pos e))
+
+pub after-all : (n : ℕ) → n < 0x7f80_0000 → lt beforeAll (f32 n) ≡ true
+after-all n h = above (f32 n) (digitsOf n * 2 ^ unitsOf n) (2 ^ 149) (plain n h)

@@ -34,11 +34,11 @@ pub fn phase(looping: Loop, complete: bool, elapsed: f32, base: f32) -> f32
             if complete {
                 return base;
             }
-            elapsed % base
+            math::remainder(elapsed, base)
         }
-        Loop::Forever => elapsed % base,
-        Loop::PingPong => bounce(elapsed % (base * 2.0), base),
-        Loop::PingPongTimes(_) => bounce(elapsed % (base * 2.0), base),
+        Loop::Forever => math::remainder(elapsed, base),
+        Loop::PingPong => bounce(math::remainder(elapsed, base * 2.0), base),
+        Loop::PingPongTimes(_) => bounce(math::remainder(elapsed, base * 2.0), base),
     }
 }
 

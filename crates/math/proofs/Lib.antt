@@ -15,6 +15,7 @@ pub mod Ordered
 pub mod Parts
 pub mod Patterns
 pub mod Ranges
+pub mod Remainders
 pub mod Sizes
 pub mod Tallies
 pub mod Units

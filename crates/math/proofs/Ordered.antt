@@ -1,23 +1,23 @@
--- The patterns of floats from 0 up are in the floats' order. Assumes nothing.
+-- The patterns of floats from 0 up are in the floats' order; so the tests of a value and of a range are tests of patterns. Assumes nothing.
 use Prim.Native.Nat.{ℕ, zero, suc, _+_, _-_, _*_, _/_, _%_, _^_, _≤_, _<_}
-use native.Mathlib.Nat.{pow-succ', zero-add, zero-mul, le-refl, lt-irrefl, lt-of-lt-of-le, le-trans, mul-pos, mul-le-mul, mul-le-mul-left, mul-lt-mul-of-pos-right, lt-of-mul-lt-mul-right, eq-or-lt-of-le}
+use native.Mathlib.Nat.{pow-succ', zero-add, zero-mul, le-refl, lt-irrefl, lt-of-lt-of-le, le-trans, mul-pos, mul-le-mul, mul-lt-mul-of-pos-right, lt-of-mul-lt-mul-right, eq-or-lt-of-le}
 use native.Mathlib.Omega.{arith}
 use mathlib.Core.Path.{_≡_, refl, sym, ap, _∙_, subst, subst⁻¹}
 use mathlib.Core.Logic.{⊎-elim}
 use mathlib.Core.Bool.{Bool, true, false, cond, _&&_, _||_, true≢false}
-use lib.Dec.{T, leb, eqb}
+use lib.Dec.{T, leb, ltb, eqb}
 use lib.Pow.{pow-pos, pow-mono}
-use borrow.Author.Tests.{le-leb, lt-leb, leb-true, leb-false, lt-ltb, ne-eqb}
+use borrow.Author.Tests.{lt-leb, leb-true, leb-false, ltb-true, ltb-false, lt-ltb, ne-eqb}
 use lib.Ieee.{Float, nan, inf, fin, binary32, up, down, odd, units, ofFields, ofBits, lt, eq, le}
 use lib.Ieee.Fits.{down-pos}
 use lib.Ieee.Bits.{is-true}
 use lib.Ieee.Exact.{HasValue, units-val}
 use lib.Ieee.Order.{le-of-values}
-use Rattle.math.specs.Rounded.{zeroF, topF}
+use Rattle.math.specs.Rounded.{zeroF}
 use Rattle.math.specs.Range.{isBetween, isValue, sizeOf}
-use Rattle.math.proofs.Order.{le-sizes, lt-le, not-le-of-lt}
+use Rattle.math.proofs.Order.{le-sizes, lt-le, not-lt-of-le, not-le-of-lt}
 use Rattle.math.proofs.Patterns.{reads-nan}
-use Rattle.math.proofs.Units.{small}
+use Rattle.math.proofs.Units.{under-top, small}
 
 -- n is q units of 2 ^ k
 abbrev pub unitsOf : ℕ → ℕ
@@ -35,15 +35,12 @@ in-units s n h =
     let e : unitsOf n * 8388608 + digitsOf n ≡ n = omega arith in
     ap (λ (z : ℕ). ofBits binary32 (with-sign s z)) (sym e) ∙ small s (digitsOf n) (unitsOf n) (omega arith) (λ l. omega arith) (omega arith)
 
-under-top : (q k : ℕ) → q < 16777216 → k ≤ 253 → q * 2 ^ k < 2 ^ 277
-under-top q k h l = lt-of-lt-of-le (mul-lt-mul-of-pos-right h (pow-pos k)) (mul-le-mul-left 16777216 (pow-mono l))
-
 pub value : (s : Bool) (n : ℕ) → n < 0x7f80_0000 → HasValue (ofBits binary32 (with-sign s n)) s (digitsOf n * 2 ^ unitsOf n) (2 ^ 149)
 value s n h =
     subst (λ (v : Float). HasValue v s (digitsOf n * 2 ^ unitsOf n) (2 ^ 149)) (sym (in-units s n h))
     (units-val binary32 s (digitsOf n) (unitsOf n) (under-top (digitsOf n) (unitsOf n) (omega arith) (omega arith)))
 
-plain : (n : ℕ) → n < 0x7f80_0000 → HasValue (ofBits binary32 n) false (digitsOf n * 2 ^ unitsOf n) (2 ^ 149)
+pub plain : (n : ℕ) → n < 0x7f80_0000 → HasValue (ofBits binary32 n) false (digitsOf n * 2 ^ unitsOf n) (2 ^ 149)
 plain n h = subst (λ (z : ℕ). HasValue (ofBits binary32 z) false (digitsOf n * 2 ^ unitsOf n) (2 ^ 149)) (zero-add n) (value false n h)
 
 pub rising : (a b : ℕ) → a < b → digitsOf a * 2 ^ unitsOf a < digitsOf b * 2 ^ unitsOf b
@@ -91,6 +88,14 @@ in-order a b h l = ⊎-elim same (λ k. is-true _ (lt-le (ofBits binary32 a) (of
 
 pub not-in-order : (a b : ℕ) → b < a → a < 0x7f80_0000 → le (ofBits binary32 a) (ofBits binary32 b) ≡ false
 not-in-order a b h l = not-le-of-lt (ofBits binary32 b) (ofBits binary32 a) (subst⁻¹ T (below b a h l) tt)
+
+-- the order, as a test of patterns
+pub below-test : (a b : ℕ) → a < 0x7f80_0000 → b < 0x7f80_0000 → lt (ofBits binary32 a) (ofBits binary32 b) ≡ ltb a b
+below-test a b h l = go (ltb a b) refl
+  where
+    go : (t : Bool) → ltb a b ≡ t → lt (ofBits binary32 a) (ofBits binary32 b) ≡ t
+    go true e = below a b (ltb-true _ _ e) l
+    go false e = not-lt-of-le (ofBits binary32 b) (ofBits binary32 a) (subst⁻¹ T (in-order b a (ltb-false _ _ e) h) tt)
 
 pub between : (n top : ℕ) → n ≤ top → top < 0x7f80_0000 → isBetween zeroF (ofBits binary32 top) (ofBits binary32 n) ≡ true
 between n top h l = rw (in-order 0 n (omega arith) (omega arith), in-order n top h l) refl

@@ -1,6 +1,7 @@
 // Helpers on one f32, which every layer leans on.
 mod blending;
 mod class;
+mod division;
 mod pattern;
 mod range;
 mod whole;
@@ -10,6 +11,7 @@ pub use blending::ratio;
 pub use class::infinity;
 pub use class::is_finite;
 pub use class::is_nan;
+pub use division::remainder;
 pub use pattern::bits;
 pub use pattern::of_bits;
 pub use range::EPSILON;

@@ -20,28 +20,13 @@ use Rattle.tween.specs.Limits.{withinOf}
 use Rattle.steps.specs.declared.take.Taken.the-variants.{Took, Stops}
 use Rattle.steps.specs.declared.run.Outcome.{Outcome}
 use Rattle.steps.specs.declared.run.Outcome.the-variants.{Finished, Refused}
-use Rattle.steps.proofs.Fronts.{Written, more}
+use Rattle.steps.specs.Inner.{Written, behind, Reached}
+use Rattle.steps.proofs.Fronts.{more}
 use Rattle.steps.specs.Course.{stepOf, Course, ended, stopped, courseOf, runOf, answerOf, over}
-
--- values, folds and a count that come before those of a course
-abbrev behind : List Float → List ℕ → ℕ → Course → Course
-behind vs fs n c = record { tween = c .tween; values = vs ++ c .values; folds = fs ++ c .folds; unsettled = n + c .unsettled; outcome = c .outcome }
 
 -- one value counted on the way, or with those behind it
 one-more : (b : Bool) (n m : ℕ) → n + cond b (suc m) m ≡ n + boolByte b + m
 one-more b n m = omega (arith, byte-more b m)
-
-pub record Reached (steps values₀ : List Float) (folds₀ : List ℕ) (t₀ : Tween) (values : List Float) (folds : List ℕ) (t : Tween) (n i : ℕ) : Type 0 where
-  pub front : List Float
-  pub counts : List ℕ
-  pub values-are : Written front i values values₀
-  pub folds-are : Written counts i folds folds₀
-  pub course-is : courseOf steps t₀ ≡ behind front counts n (courseOf (drop i steps) t)
-  pub values-long : length values ≡ length values₀
-  pub folds-long : length folds ≡ length folds₀
-  pub within : withinOf t ≡ true
-  pub few : i ≤ length steps
-  pub few-unsettled : n < i + 1
 
 module _ (steps values₀ : List Float) (folds₀ : List ℕ) (t₀ : Tween) where
   pub begins : withinOf t₀ ≡ true → Reached steps values₀ folds₀ t₀ values₀ folds₀ t₀ 0 0

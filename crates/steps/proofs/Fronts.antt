@@ -5,10 +5,7 @@ use mathlib.Core.List.{List, [], _∷_, _++_, append-assoc}
 use native.Mathlib.Numerals.{add-one}
 use lib.ListN.{length, drop, getD, set, length-append}
 use lib.Seq.{drop-cons, set-at}
-
--- a front of i places is written, and behind it a list is as it was
-abbrev pub Written : {A : Type 0} → List A → ℕ → List A → List A → Type 0
-Written {A} front i l was = (length front ≡ i) × (l ≡ front ++ drop i was)
+pub use Rattle.steps.specs.Inner.{Written}
 
 -- one place more
 pub more : {A : Type 0} (d : A) (front : List A) (i : ℕ) (l was : List A) (x : A) → i < length was → Written front i l was → Written (front ++ (x ∷ [])) (i + 1) (set l i x) was

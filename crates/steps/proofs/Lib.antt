@@ -1,3 +1,5 @@
 pub mod Fronts
 mod Courses
+mod Onward
+mod Straight
 mod Taking

@@ -1,4 +1,5 @@
 // A run of steps in one call: what an archive does all day. The record is checked once.
+mod gliding;
 mod run;
 mod take;
 

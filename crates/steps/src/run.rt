@@ -5,13 +5,11 @@ ghost use Prim.Native.Nat.{_≤_};
 ghost use lib.ListN.{length};
 ghost use Rattle.tween.specs.Limits.{withinOf};
 ghost use Rattle.steps.specs.Course.{courseOf, runOf, answerOf, over};
+use crate::gliding::glide_on;
 use crate::take::Taken;
-use crate::take::sure_value;
 use crate::take::take;
 use refusal::Refusal;
-use tween::Glided;
 use tween::Tween;
-use tween::glide;
 use tween::within;
 
 pub enum Outcome {
@@ -49,19 +47,12 @@ fn run_on(first: Tween, steps: &[f32], values: &mut [f32], folds: &mut [u32]) ->
     let mut unsettled: usize = 0;
     let mut i: usize = 0;
     while i < steps.len() {
-        match glide(t, steps[i]) {
-            Glided::To { waited, folding } => {
-                t.elapsed = folding.elapsed;
-                t.delay_elapsed = waited;
-                t.loop_count = folding.loop_count;
-                t.ping_pong_reverse = folding.ping_pong_reverse;
-                let found = sure_value(t);
-                values[i] = found.value;
-                folds[i] = folding.folds;
-                unsettled += !found.settled as usize;
-                i += 1;
-            }
-            Glided::Unsure => match take(t, steps[i]) {
+        let stretch = glide_on(t, i, unsettled, steps, values, folds);
+        t = stretch.tween;
+        i = stretch.next;
+        unsettled = stretch.unsettled;
+        if i < steps.len() {
+            match take(t, steps[i]) {
                 Taken::Took(tween, found, made) => {
                     values[i] = found.value;
                     folds[i] = made;
@@ -70,7 +61,7 @@ fn run_on(first: Tween, steps: &[f32], values: &mut [f32], folds: &mut [u32]) ->
                     i += 1;
                 }
                 Taken::Stops(refusal) => return answer(t, i, unsettled, Outcome::Refused(refusal)),
-            },
+            }
         }
     }
     answer(t, i, unsettled, Outcome::Finished)

@@ -38,7 +38,7 @@ module _ (t : Tween) (h : T (withinOf t)) where
   i : Limits t
   i = limits t h
 
-  progress-within : Within (progressIn t)
+  pub progress-within : Within (progressIn t)
   progress-within =
       let d = t .duration in
       by-test Within (eq d zeroF) oneF (clamp01Of (t .elapsed ⊘ d)) (λ _. one-within)

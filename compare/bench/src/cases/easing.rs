@@ -1,4 +1,4 @@
-use super::{Case, name_of};
+use super::{BEZIER_BAR, Case, name_of};
 use crate::ffi::lax_easing_apply;
 use crate::meaning::easing_words;
 use crate::rules::is_one_of_twelve;
@@ -10,10 +10,22 @@ use std::hint::black_box;
 
 const PROGRESSES: usize = 1_024;
 
+const PLAIN_BAR: f64 = 2.5;
+
 /// The supplied kinds, with the parameters of `all_named`.
 pub fn cases() -> Vec<Case> {
     let supplied = Easing::all_named().iter().filter(|easing| !is_one_of_twelve(&easing_words(easing)));
     supplied.map(apply).collect()
+}
+
+/// A kind without parameters; the three of Circ have a root, and no bar.
+fn bar(easing: &Easing) -> Option<f64> {
+    match easing {
+        Easing::CubicBezier(..) => Some(BEZIER_BAR),
+        Easing::EaseInCirc | Easing::EaseOutCirc | Easing::EaseInOutCirc => None,
+        Easing::Steps(_) | Easing::SlowMo { .. } | Easing::CustomBounce { .. } => None,
+        _ => Some(PLAIN_BAR),
+    }
 }
 
 fn apply(easing: &'static Easing) -> Case {
@@ -21,7 +33,7 @@ fn apply(easing: &'static Easing) -> Case {
     let (words, same) = (easing_words(easing), progresses.clone());
     Case {
         name: format!("apply, {}", name_of(easing)),
-        bar: None,
+        bar: bar(easing),
         answers: PROGRESSES as f64,
         size: 1,
         ours: side::filling(PROGRESSES, move |answers| {

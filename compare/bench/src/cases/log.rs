@@ -51,12 +51,7 @@ fn written() -> Case {
 
 /// A log of steps, from whose middle some are lost.
 fn log() -> Vec<u8> {
-    let mut log = vec![0; 5 + 8 * (REPLAYED + LOST)];
-    let mut written = 0;
-    log_head(&mut log, &mut written);
-    for step in inputs::below(0.5, REPLAYED + LOST) {
-        log_record(&mut log, &mut written, &LaxEvent { kind: 1, step });
-    }
+    let mut log = inputs::log(REPLAYED + LOST);
     let middle = 5 + 8 * (REPLAYED / 2);
     log.drain(middle..middle + 8 * LOST);
     log

@@ -32,7 +32,10 @@ pub fn growing() -> Vec<Vec<Case>> {
     vec![track::growing_samples(), track::growing_frames(), tween::growing_folds()]
 }
 
-const BEZIER: Easing = Easing::CubicBezier(0.25, 0.1, 0.25, 1.0);
+/// Of a CubicBezier, applied or in a tween's value.
+const BEZIER_BAR: f64 = 1.5;
+
+pub const BEZIER: Easing = Easing::CubicBezier(0.25, 0.1, 0.25, 1.0);
 
 fn name_of(easing: &Easing) -> String {
     let shown = format!("{easing:?}");

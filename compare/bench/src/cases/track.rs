@@ -1,10 +1,10 @@
 use super::{BEZIER, Case, name_of};
-use crate::ffi::{lax_track_value_at, track_values_at};
-use crate::rules::last_time;
-use crate::side::Valued;
-use crate::words::{CountedPlace, FoundPlace, LaxTrack};
+use crate::ffi::{lax_track_push, lax_track_update, lax_track_value_at, track_values_at};
+use crate::rules::{FOREVER, last_time};
+use crate::side::{Stepped, Valued};
+use crate::words::{CountedPlace, FoundPlace, LaxLoop, LaxTrack, PLACES};
 use crate::{inputs, meaning, rust, side};
-use oracle::Easing;
+use oracle::{Easing, KeyframeTrack};
 use std::hint::black_box;
 
 /// In a batch, but where their number grows.
@@ -21,6 +21,8 @@ pub fn cases() -> Vec<Case> {
             batches.push(sampled(&easing, frames));
         }
     }
+    single.extend([2, 64].map(update));
+    single.push(push());
     batches.push(sampled(&Easing::EaseInQuad, 64));
     batches.extend([Easing::Linear, Easing::EaseInOutCubic].map(|easing| in_order(&easing, 64)));
     single.extend(batches);
@@ -31,11 +33,20 @@ pub fn cases() -> Vec<Case> {
 fn single_bar(easing: &Easing, frames: usize) -> Option<f64> {
     match (easing, frames) {
         (Easing::EaseInCirc, _) => None,
-        (_, 2) => Some(5.0),
-        (_, 64) => Some(10.0),
-        _ => None,
+        (_, 64) => Some(7.5),
+        _ => Some(2.5),
     }
 }
+
+/// The Rust looks at no frame.
+fn update_bar(frames: usize) -> Option<f64> {
+    match frames {
+        2 => Some(4.5),
+        _ => Some(25.0),
+    }
+}
+
+const PUSH_BAR: f64 = 3.0;
 
 fn batch_bar(easing: &Easing, frames: usize) -> Option<f64> {
     match (easing, frames) {
@@ -68,6 +79,63 @@ fn value_at(easing: &Easing, frames: usize) -> Case {
             for (answer, time) in answers.iter_mut().zip(&same) {
                 *answer = rust::value_at(track, *time);
             }
+        }),
+    }
+}
+
+/// In a pass.
+const STEPS: usize = 1_000;
+
+/// In Forever, one update behind the other.
+fn update(frames: usize) -> Case {
+    let words = inputs::track(&Easing::Linear, frames);
+    let first = LaxTrack { looping: LaxLoop { mode: FOREVER, passes: 0 }, ..words };
+    let (begun, steps) = (meaning::track(&first), inputs::below(1.0, STEPS));
+    let same = steps.clone();
+    Case {
+        name: format!("track update, {frames} frames"),
+        bar: update_bar(frames),
+        answers: STEPS as f64,
+        size: 1,
+        ours: side::filling(STEPS, move |answers| {
+            let (mut track, mut running) = (first, 0);
+            for (answer, step) in answers.iter_mut().zip(&steps) {
+                let number = lax_track_update(black_box(&mut track), *step, &mut running);
+                *answer = Stepped { number, running, elapsed: track.elapsed };
+            }
+        }),
+        rust: side::filling(STEPS, move |answers| {
+            let mut track = begun.clone();
+            for (answer, step) in answers.iter_mut().zip(&same) {
+                let running = rust::track_update(black_box(&mut track), *step);
+                *answer = Stepped { number: 0, running: running.into(), elapsed: track.elapsed() };
+            }
+        }),
+    }
+}
+
+/// Frames at random times, from none to 64; of one push.
+fn push() -> Case {
+    let times = inputs::below(60.0, PLACES);
+    let same = times.clone();
+    Case {
+        name: format!("push, from 0 to {PLACES} frames"),
+        bar: Some(PUSH_BAR),
+        answers: PLACES as f64,
+        size: 1,
+        ours: side::filling(PLACES, move |answers| {
+            let mut track = LaxTrack::default();
+            for time in &times {
+                assert_eq!(lax_track_push(black_box(&mut track), *time, -*time), 0);
+            }
+            answers.iter_mut().zip(&track.frames).for_each(|(answer, frame)| *answer = frame.value);
+        }),
+        rust: side::filling(PLACES, move |answers| {
+            let mut track = KeyframeTrack::new();
+            for time in &same {
+                rust::push(black_box(&mut track), *time, -*time);
+            }
+            answers.iter_mut().zip(track.frames()).for_each(|(answer, frame)| *answer = frame.value);
         }),
     }
 }

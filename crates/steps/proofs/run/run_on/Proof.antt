@@ -2,14 +2,13 @@
 use Prim.Native.Nat.{_-_}
 use native.Mathlib.Omega.{arith}
 use mathlib.Core.Bool.{not}
-use mathlib.Core.Path.{sym, _∙_, subst}
-use borrow.Author.Needs.{needs}
+use mathlib.Core.Path.{sym, _∙_}
+use borrow.Author.Needs.{needs, scaled-fits}
 use lib.ListN.{length}
 use Rattle.math.proofs.Tallies.{byte-below}
-use Rattle.tween.specs.Inner.{Glides}
-use Rattle.steps.proofs.Courses.{Reached, begins, goes-on, stops, finishes}
-use Rattle.tween.proofs.Glides.{glide-within}
-use Rattle.steps.proofs.Taking.{took-within, glide-took}
+use Rattle.steps.specs.Inner.{Reached}
+use Rattle.steps.proofs.Courses.{begins, goes-on, stops, finishes}
+use Rattle.steps.proofs.Taking.{took-within}
 use Rattle.steps.proofs.run.run_on.Statement.{statement}
 use Rattle.steps.proofs.run.run_on.Tie as tie
 
@@ -26,51 +25,88 @@ run-on-spec =
     Inv-loop
     μ-loop
     (λ c. begins _ _ _ _ (c .before .before .before .pre .0))
+    (λ c κs.
+    let s = c .before .before .before in
+    let p = s .before .before .before .before .pre in
+    let r = s .loop .inv in
+    (r .within, omega (arith, r .values-long, p .1), omega (arith, r .folds-long, p .2), r .few, omega (arith, r .few-unsettled)))
     (λ c. search needs)
     (λ c. search needs)
-    (λ c κs. c .before .before .loop .inv .within)
+    (λ c κs.
+    let g = c .before .before .before .before .before .before .before in
+    let s = g .before .before .before .before in
+    let p = s .before .before .before .before .pre in
+    let r = g .glide-on .ensures .1 _ _ _ (s .loop .inv) in
+    r .within)
     (λ c. search needs)
-    (λ c κs. glide-within _ _ _ _ (subst (Glides _ _) (c .before .waited .given .1) (c .before .before .before .glide .ensures)))
-    (λ c. search needs)
-    (λ c. omega (arith, c .before .before .before .before .before .before .before .loop .inv .values-long, c .before .before .before .before .before .before .before .before .before .before .before .pre .1))
-    (λ c. search needs)
-    (λ c. omega (arith, c .before .before .before .before .before .before .before .loop .inv .folds-long, c .before .before .before .before .before .before .before .before .before .before .before .pre .2))
-    (λ c. search needs)
-    (λ c. let s = c .before .before .before .before .before .before .before .before in omega (arith, byte-below (not (c .before .sure-value .result .settled)) _ _ (s .loop .inv .few-unsettled)))
-    (λ c. search needs)
+    (λ c. scaled-fits _ _ _ (c .before .before .before .before .before .if1 .taken) (c .before .before .before .before .before .before .before .before .before .before .before .before .before .before .before .before .before .before .before .good .1 .0 .1))
+    (λ c.
+    let g = c .before .before .before .before .before .before .before .before .before .before .before in
+    let s = g .before .before .before .before in
+    let p = s .before .before .before .before .pre in
+    let r = g .glide-on .ensures .1 _ _ _ (s .loop .inv) in
+    omega (arith, r .values-long, p .1, c .before .before .before .before .before .if1 .taken))
+    (λ c. scaled-fits _ _ _ (c .before .before .before .before .before .if1 .taken) (c .before .before .before .before .before .before .before .before .before .before .before .before .before .before .before .before .before .before .before .good .1 .0 .1))
+    (λ c.
+    let g = c .before .before .before .before .before .before .before .before .before .before .before in
+    let s = g .before .before .before .before in
+    let p = s .before .before .before .before .pre in
+    let r = g .glide-on .ensures .1 _ _ _ (s .loop .inv) in
+    omega (arith, r .folds-long, p .2, c .before .before .before .before .before .if1 .taken))
     (λ c. search needs)
     (λ c.
-    let s = c .before .before .before .before .before .before .before .before in
+    let g = c .before .before .before .before .before .before .before .before .before .before .before .before in
+    let s = g .before .before .before .before in
     let p = s .before .before .before .before .pre in
-    let g = subst (Glides _ _) (c .before .before .before .waited .given .1) (c .before .before .before .before .before .glide .ensures) in
-    goes-on _ _ _ _ (p .1) (p .2) _ _ _ _ _ (s .loop .inv) _ _ _ (c .before .before .before .before .before .before .before .loop-test .taken) (glide-took _ _ _ _ g _ (c .before .sure-value .ensures)) (glide-within _ _ _ _ g))
-    (λ c. search needs)
-    (λ c. search needs)
-    (λ c. search needs)
-    (λ c κs. c .before .before .before .before .before .before .loop .inv .within)
-    (λ c. search needs)
-    (λ c. search needs)
-    (λ c. omega (arith, c .before .before .before .before .before .before .before .before .before .before .loop .inv .values-long, c .before .before .before .before .before .before .before .before .before .before .before .before .before .before .pre .1))
-    (λ c. search needs)
-    (λ c. omega (arith, c .before .before .before .before .before .before .before .before .before .before .loop .inv .folds-long, c .before .before .before .before .before .before .before .before .before .before .before .before .before .before .pre .2))
-    (λ c. search needs)
-    (λ c. let s = c .before .before .before .before .before .before .before .before .before .before .before in omega (arith, byte-below (not (c .before .before .tween .given .0 .1 .0 .settled)) _ _ (s .loop .inv .few-unsettled), s .before .before .before .before .good .1 .0))
-    (λ c. omega (arith, c .before .before .before .before .before .before .before .before .before .before .before .before .before .before .before .good .1 .0))
-    (λ c. search needs)
+    let r = g .glide-on .ensures .1 _ _ _ (s .loop .inv) in
+    omega (arith, byte-below (not (c .before .before .tween .given .0 .1 .0 .settled)) _ _ (r .few-unsettled), c .before .before .before .before .before .before .if1 .taken, s .before .before .before .before .good .1 .0))
+    (λ c. omega (arith, c .before .before .before .before .before .before .if1 .taken, c .before .before .before .before .before .before .before .before .before .before .before .before .before .before .before .before .before .before .before .before .good .1 .0))
     (λ c.
-    let s = c .before .before .before .before .before .before .before .before .before .before .before in
+    let g = c .before .before .before .before .before .before .before .before .before .before .before .before in
+    let s = g .before .before .before .before in
     let p = s .before .before .before .before .pre in
+    let r = g .glide-on .ensures .1 _ _ _ (s .loop .inv) in
+    omega (arith, g .glide-on .ensures .0, g .before .before .before .loop-test .taken, c .before .before .before .before .before .before .if1 .taken))
+    (λ c.
+    let g = c .before .before .before .before .before .before .before .before .before .before .before .before in
+    let s = g .before .before .before .before in
+    let p = s .before .before .before .before .pre in
+    let r = g .glide-on .ensures .1 _ _ _ (s .loop .inv) in
     let e = sym (c .before .before .before .before .take .ensures) ∙ c .before .before .tween .given .1 in
-    goes-on _ _ _ _ (p .1) (p .2) _ _ _ _ _ (s .loop .inv) _ _ _ (c .before .before .before .before .before .before .before .before .before .before .loop-test .taken) e (took-within _ _ _ _ _ e))
+    goes-on _ _ _ _ (p .1) (p .2) _ _ _ _ _ r _ _ _ (c .before .before .before .before .before .before .if1 .taken) e (took-within _ _ _ _ _ e))
     (λ c. search needs)
     (λ c κs. search needs)
-    (λ c. c .before .before .before .before .before .before .before .before .before .before .before .loop .inv .values-long)
-    (λ c. c .before .before .before .before .before .before .before .before .before .before .before .loop .inv .folds-long)
     (λ c.
-    let s = c .before .before .before .before .before .before .before .before .before .before .before in
+    let g = c .before .before .before .before .before .before .before .before .before .before .before .before in
+    let s = g .before .before .before .before in
     let p = s .before .before .before .before .pre in
-    let r = stops _ _ _ _ (p .1) (p .2) _ _ _ _ _ (s .loop .inv) _ (c .before .before .before .before .before .before .before .before .before .before .loop-test .taken) (sym (c .before .before .before .before .take .ensures) ∙ c .before .before .refusal .given .1) in
-    (c .answer .ensures ∙ r .0, (r .1, r .2)))
+    let r = g .glide-on .ensures .1 _ _ _ (s .loop .inv) in
+    r .values-long)
+    (λ c.
+    let g = c .before .before .before .before .before .before .before .before .before .before .before .before in
+    let s = g .before .before .before .before in
+    let p = s .before .before .before .before .pre in
+    let r = g .glide-on .ensures .1 _ _ _ (s .loop .inv) in
+    r .folds-long)
+    (λ c.
+    let g = c .before .before .before .before .before .before .before .before .before .before .before .before in
+    let s = g .before .before .before .before in
+    let p = s .before .before .before .before .pre in
+    let r = g .glide-on .ensures .1 _ _ _ (s .loop .inv) in
+    let q = stops _ _ _ _ (p .1) (p .2) _ _ _ _ _ r _ (c .before .before .before .before .before .before .if1 .taken) (sym (c .before .before .before .before .take .ensures) ∙ c .before .before .refusal .given .1) in
+    (c .answer .ensures ∙ q .0, (q .1, q .2)))
+    (λ c.
+    let g = c .before .before .before .before .before .before in
+    let s = g .before .before .before .before in
+    let p = s .before .before .before .before .pre in
+    let r = g .glide-on .ensures .1 _ _ _ (s .loop .inv) in
+    omega (arith, g .glide-on .ensures .0, g .before .before .before .loop-test .taken, c .if1 .left))
+    (λ c.
+    let g = c .before .before .before .before .before .before in
+    let s = g .before .before .before .before in
+    let p = s .before .before .before .before .pre in
+    let r = g .glide-on .ensures .1 _ _ _ (s .loop .inv) in
+    r)
     (λ c κs. search needs)
     (λ c. c .before .before .loop .inv .values-long)
     (λ c. c .before .before .loop .inv .folds-long)

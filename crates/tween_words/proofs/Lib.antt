@@ -1,0 +1,4 @@
+pub mod Fits
+mod Folding
+mod Moving
+mod Valued

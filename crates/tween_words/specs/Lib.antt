@@ -1,0 +1,3 @@
+pub mod Fitting
+pub mod Stepping
+pub mod Valuing
