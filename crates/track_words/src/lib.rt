@@ -1,12 +1,14 @@
 // A track lent as 518 words: 64 places of eight (time, value, kind, four parameters, a count), then
 // count, elapsed, mode, passes, loop_count, complete. Frames are looked at where they stand.
 mod checking;
+mod filling;
 mod playing;
 mod pushing;
 mod reading;
 mod sampling;
 
 pub use checking::check;
+pub use filling::fill;
 pub use playing::active_time;
 pub use playing::count;
 pub use playing::duration;
