@@ -1,16 +1,17 @@
 -- The ways of the calls of a track: its words do not pass the check, and the number is the check's; or they do, and the answer is the track's. Assumes nothing.
-use Prim.Native.Nat.{ℕ, _<_}
+use Prim.Native.Nat.{ℕ, _<_, _≤_}
 use mathlib.Core.Path.{_≡_, refl, sym, ap, _∙_}
 use mathlib.Core.Bool.{Bool, true, false, cond, _&&_}
-use mathlib.Core.List.{List}
+use mathlib.Core.List.{List, [], _∷_}
+use lib.ListN.{length}
 use lib.Ieee.{Float, eq, isNan}
-use borrow.Author.Tests.{lt-ltb, le-ltb}
+use borrow.Author.Tests.{lt-ltb, le-ltb, le-leb, lt-leb}
 use native.Mathlib.Omega.{arith}
 use Rattle.math.specs.Rounded.{f32, zeroF}
 use Rattle.math.specs.Range.{clamp01Of, isValue}
 use Rattle.math.proofs.Choice.{of-picked}
 use Rattle.refusal.specs.declared.Refusal.{Refusal}
-use Rattle.refusal.specs.declared.Refusal.the-variants.{RecordBreaksLimit, EasingNotSupplied, EasingParameter, NoFrames, ProgressIsNan, TrackFull, TrackLimit}
+use Rattle.refusal.specs.declared.Refusal.the-variants.{RecordBreaksLimit, EasingNotSupplied, EasingParameter, NoFrames, OutputTooShort, ProgressIsNan, TrackFull, TrackLimit}
 use Rattle.loop_mode.specs.declared.Loop.{Loop}
 use Rattle.easing.specs.declared.answers.Eased.the-variants as eased
 use Rattle.easing.specs.Apply.{fitsRecordOf}
@@ -18,12 +19,13 @@ use Rattle.easing.specs.Kinds.{suppliedOf}
 use Rattle.easing.specs.Params as params
 use Rattle.frames.specs.declared.frame.Keyframe.{Keyframe}
 use Rattle.frames.specs.Limits.{isTime}
-use Rattle.frames.specs.Sampling.{sampleOf}
+use Rattle.frames.specs.Sampling.{filledOf, sampleOf, unsettledOf}
 use Rattle.keyframe.specs.declared.types.Clock.{Clock}
 use Rattle.keyframe.specs.declared.types.Outcome.the-variants as outcome
 use Rattle.keyframe.specs.declared.types.Ticked.{Ticked}
 use Rattle.keyframe.specs.declared.types.Ticked.the-variants as ticked
 use Rattle.keyframe.specs.declared.types.Track.{Track}
+use Rattle.keyframe.specs.Batch.{batchAnswer, batchCount, batchNumber, batchOut, batchUnsettled}
 use Rattle.keyframe.specs.Clock.{clockIn, clockOf, seekOf, tickOf, tickedIn, withClock}
 use Rattle.keyframe.specs.Limits.{baseOf, endOf, framesIn, modeFits, withinOf}
 use Rattle.keyframe.specs.Playback.{activeOf, activeTimeOf, completeOf, doneOf, durationIn, playbackIn, playbackOf, playbackProgress, progressOf}
@@ -43,7 +45,7 @@ use Rattle.track_words.specs.Reading.{clockWords, trackOf}
 use Rattle.track_words.proofs.Checked.{passed-known, passed-within}
 use Rattle.track_words.proofs.Pushes.{push-outcome}
 use Rattle.capi.specs.Answers.{Answer, accepted, refused, foundWords, foundIn, secondsIn, progressIn, flagIn}
-use Rattle.capi.specs.Tracks.{onTrack, laxTrackPush, pushed, pushedBy, loopInto, looped, laxTrackLooping, laxTrackValueAt, laxTrackValue, laxTrackActiveTime, laxTrackDuration, laxTrackPlaybackDuration, laxTrackProgress, completionIn, laxTrackIsComplete, movedIn, laxTrackReset, laxTrackSeekTo, TrackStepping, steppedIn, laxTrackUpdate}
+use Rattle.capi.specs.Tracks.{onTrack, laxTrackPush, pushed, pushedBy, loopInto, looped, laxTrackLooping, laxTrackValueAt, laxTrackValue, laxTrackActiveTime, laxTrackDuration, laxTrackPlaybackDuration, laxTrackProgress, completionIn, laxTrackIsComplete, movedIn, laxTrackReset, laxTrackSeekTo, TrackStepping, steppedIn, laxTrackUpdate, Filling, filledIn, laxTrackValuesAt}
 
 abbrev pub answered : {A : Type 0} → ℕ → A → Answer A
 answered n a = record { number = n; left = a }
@@ -57,6 +59,12 @@ stepping words running = record { words = words; running = running }
 
 pub three : (n : ℕ) (words : List ℕ) (running : ℕ) (x : Answer TrackStepping) → answered n (stepping words running) ≡ x → (n ≡ x .number) × ((words ≡ x .left .words) × (running ≡ x .left .running))
 three n words running x e = (ap (λ (y : Answer TrackStepping). y .number) e, (ap (λ (y : Answer TrackStepping). y .left .words) e, ap (λ (y : Answer TrackStepping). y .left .running) e))
+
+abbrev pub filling : List Float → List ℕ → Filling
+filling out filled = record { out = out; filled = filled }
+
+pub parts : (n : ℕ) (out : List Float) (filled : List ℕ) (x : Answer Filling) → answered n (filling out filled) ≡ x → (n ≡ x .number) × ((out ≡ x .left .out) × (filled ≡ x .left .filled))
+parts n out filled x e = (ap (λ (y : Answer Filling). y .number) e, (ap (λ (y : Answer Filling). y .left .out) e, ap (λ (y : Answer Filling). y .left .filled) e))
 
 -- words that do not pass
 module _ (words : List ℕ) (n : ℕ) (number : n ≡ checkOf words) (some : n ≡ 0 → ⊥) where
@@ -108,6 +116,10 @@ module _ (words : List ℕ) (n : ℕ) (number : n ≡ checkOf words) (some : n �
   pub stopped-update : (step : Float) (out : ℕ) → answered n (stepping words out) ≡ laxTrackUpdate words step out
   unfolding laxTrackUpdate steppedIn updateOf
   stopped-update step out = stopped (stepping words out) (λ t. steppedIn (stepping words out) (updateOf t step)) (λ t e. rw e refl)
+
+  pub stopped-values : (times out : List Float) (filled : List ℕ) → answered n (filling out filled) ≡ laxTrackValuesAt words times out filled
+  unfolding laxTrackValuesAt filledIn batchOut batchCount batchUnsettled batchNumber
+  stopped-values times out filled = stopped (filling out filled) (λ t. filledIn (filling out filled) (batchOut t times out) (batchAnswer t times out)) (λ t e. rw e refl)
 
   pub stopped-looping : (m : List ℕ) (l : Loop) → loopFrom (loopAt m 0) ≡ mode.Known l → answered n words ≡ laxTrackLooping words m
   unfolding laxTrackLooping loopingOf
@@ -196,6 +208,24 @@ module _ (words : List ℕ) (fine : checkOf words ≡ 0) where
     pub update-not : (r : Refusal) → ticked.Refused r ≡ tickOf (trackOf words .count) (baseOf (trackOf words)) (trackOf words .looping) (clockIn (trackOf words)) step → refused (stepping words out) r ≡ laxTrackUpdate words step out
     unfolding steppedIn
     update-not r e = by-tick (ticked.Refused r) e
+
+  -- many times at once
+  module _ (times out : List Float) (filled : List ℕ) where
+    abbrev batch : Track → Answer Filling
+    batch t = filledIn (filling out filled) (batchOut t times out) (batchAnswer t times out)
+
+    pub values-none : wordAt words 512 ≡ 0 → refused (filling out filled) NoFrames ≡ laxTrackValuesAt words times out filled
+    unfolding laxTrackValuesAt filledIn batchOut batchCount batchUnsettled batchNumber trackFrom trackIn
+    values-none h = sym (went (filling out filled) batch ∙ rw (within, le-ltb 0 (wordAt words 512) (omega (arith, h))) refl)
+
+    module _ (some : 0 < wordAt words 512) where
+      pub values-short : length out < length times → refused (filling out filled) OutputTooShort ≡ laxTrackValuesAt words times out filled
+      unfolding laxTrackValuesAt filledIn batchOut batchCount batchUnsettled batchNumber trackFrom trackIn
+      values-short h = sym (went (filling out filled) batch ∙ rw (within, lt-ltb 0 (wordAt words 512) some, lt-leb (length times) (length out) h) refl)
+
+      pub values-is : length times ≤ length out → accepted (filling (filledOf (framesIn (trackOf words)) times out) (length times ∷ unsettledOf (framesIn (trackOf words)) times ∷ [])) ≡ laxTrackValuesAt words times out filled
+      unfolding laxTrackValuesAt filledIn batchOut batchCount batchUnsettled batchNumber trackFrom trackIn
+      values-is h = sym (went (filling out filled) batch ∙ rw (within, lt-ltb 0 (wordAt words 512) some, le-leb (length times) (length out) h) refl)
 
   module _ (m : List ℕ) (l : Loop) (known : loopFrom (loopAt m 0) ≡ mode.Known l) where
     pub looping-limit : modeFits l (baseOf (trackOf words)) ≡ false → refused words TrackLimit ≡ laxTrackLooping words m

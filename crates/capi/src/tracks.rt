@@ -4,7 +4,6 @@ ghost use mathlib.Core.Path.{_≡_};
 ghost use Rattle.capi.specs.Tracks.{laxTrackNew, laxTrackPush, easedRow, plainRow, laxTrackLooping, laxTrackValueAt, laxTrackValue, laxTrackValuesAt, laxTrackActiveTime, laxTrackDuration, laxTrackPlaybackDuration, laxTrackProgress, laxTrackIsComplete, laxTrackReset, laxTrackSeekTo, laxTrackUpdate};
 use crate::answers::UNKNOWN_WORD;
 use crate::track_answers::store_found;
-use crate::track_answers::track_in;
 use keyframe::Clock;
 use keyframe::Ticked;
 use refusal::Refusal;
@@ -13,11 +12,9 @@ use words::FrameRead;
 use words::LoopRead;
 use words::flag_word;
 use words::frame_in;
-use words::is_known;
 use words::loop_in;
 use words::loop_of;
 use words::read_frame;
-use words::track_of;
 
 #[no_mangle]
 pub extern "C" fn lax_track_new(w: &mut [u32; 518]) -> u32
@@ -266,14 +263,21 @@ pub extern "C" fn lax_track_values_at(
     out: &mut [f32],
     filled: &mut [usize; 2],
 ) -> u32
+    ensures number { λ r. ⌜ r ≡ laxTrackValuesAt (now (w .entry)) (now (times .entry)) (now (out .entry)) (now (filled .entry)) .number ⌝ }
+    ensures output { λ _. ⌜ now (out .exit) ≡ laxTrackValuesAt (now (w .entry)) (now (times .entry)) (now (out .entry)) (now (filled .entry)) .left .out ⌝ }
+    ensures places { λ _. ⌜ now (filled .exit) ≡ laxTrackValuesAt (now (w .entry)) (now (times .entry)) (now (out .entry)) (now (filled .entry)) .left .filled ⌝ }
 {
-    let t = track_in(w);
-    if is_known(t) {
-        let a = track_of(t).fill_values(times, out);
-        if a.refusal == 0 {
-            *filled = [a.filled, a.unsettled];
-        }
-        return a.refusal;
+    let number = check(w);
+    if number != 0 {
+        return number;
     }
-    UNKNOWN_WORD
+    if track_words::count(w) == 0 {
+        return Refusal::NoFrames.number();
+    }
+    if out.len() < times.len() {
+        return Refusal::OutputTooShort.number();
+    }
+    let unsettled = track_words::fill(w, times, out);
+    *filled = [times.len(), unsettled];
+    0
 }
