@@ -1,38 +1,51 @@
 -- The ways of the calls of a track: its words do not pass the check, and the number is the check's; or they do, and the answer is the track's. Assumes nothing.
-use Prim.Native.Nat.{ℕ, _<_}
+use Prim.Native.Nat.{ℕ, _<_, _≤_}
 use mathlib.Core.Path.{_≡_, refl, sym, ap, _∙_}
-use mathlib.Core.Bool.{Bool, true, false, cond}
-use mathlib.Core.List.{List}
-use lib.Ieee.{Float, isNan}
-use borrow.Author.Tests.{lt-ltb, le-ltb}
+use mathlib.Core.Bool.{Bool, true, false, cond, _&&_}
+use mathlib.Core.List.{List, [], _∷_}
+use lib.ListN.{length}
+use lib.Ieee.{Float, eq, isNan}
+use borrow.Author.Tests.{lt-ltb, le-ltb, le-leb, lt-leb}
 use native.Mathlib.Omega.{arith}
-use Rattle.math.specs.Rounded.{zeroF}
-use Rattle.math.specs.Range.{clamp01Of}
+use Rattle.math.specs.Rounded.{f32, zeroF}
+use Rattle.math.specs.Range.{clamp01Of, isValue}
+use Rattle.math.proofs.Choice.{of-picked}
 use Rattle.refusal.specs.declared.Refusal.{Refusal}
-use Rattle.refusal.specs.declared.Refusal.the-variants.{RecordBreaksLimit, NoFrames, ProgressIsNan, TrackLimit}
+use Rattle.refusal.specs.declared.Refusal.the-variants.{RecordBreaksLimit, EasingNotSupplied, EasingParameter, NoFrames, OutputTooShort, ProgressIsNan, TrackFull, TrackLimit}
 use Rattle.loop_mode.specs.declared.Loop.{Loop}
 use Rattle.easing.specs.declared.answers.Eased.the-variants as eased
-use Rattle.frames.specs.Sampling.{sampleOf}
+use Rattle.easing.specs.Apply.{fitsRecordOf}
+use Rattle.easing.specs.Kinds.{suppliedOf}
+use Rattle.easing.specs.Params as params
+use Rattle.frames.specs.declared.frame.Keyframe.{Keyframe}
+use Rattle.frames.specs.Limits.{isTime}
+use Rattle.frames.specs.Sampling.{filledOf, sampleOf, unsettledOf}
 use Rattle.keyframe.specs.declared.types.Clock.{Clock}
+use Rattle.keyframe.specs.declared.types.Outcome.the-variants as outcome
 use Rattle.keyframe.specs.declared.types.Ticked.{Ticked}
 use Rattle.keyframe.specs.declared.types.Ticked.the-variants as ticked
 use Rattle.keyframe.specs.declared.types.Track.{Track}
+use Rattle.keyframe.specs.Batch.{batchAnswer, batchCount, batchNumber, batchOut, batchUnsettled}
 use Rattle.keyframe.specs.Clock.{clockIn, clockOf, seekOf, tickOf, tickedIn, withClock}
 use Rattle.keyframe.specs.Limits.{baseOf, endOf, framesIn, modeFits, withinOf}
 use Rattle.keyframe.specs.Playback.{activeOf, activeTimeOf, completeOf, doneOf, durationIn, playbackIn, playbackOf, playbackProgress, progressOf}
-use Rattle.keyframe.specs.Pushing.{loopingOf}
+use Rattle.keyframe.specs.Pushing.{laterOf, loopingOf, pushOf, storedOf, takesOf}
 use Rattle.keyframe.specs.Sampling.{valueAtOf}
 use Rattle.keyframe.specs.Stepping.{resetOf, seekToOf, updateOf}
 use Rattle.keyframe.proofs.Ticks.{sought-clock, update-ticked}
 use Rattle.words.specs.declared.modes.LoopRead.the-variants as mode
-use Rattle.words.specs.Lent.{wordAt, loopAt, trackIn, clockInto}
+use Rattle.words.specs.declared.tracks.FrameRead.the-variants as frame
+use Rattle.words.specs.Kinds.{isKind}
+use Rattle.words.specs.Lent.{wordAt, floatAt, frameAt, loopAt, trackIn, clockInto}
 use Rattle.words.specs.Modes.{loopFrom, flagWord}
-use Rattle.words.specs.Tracks.{knownTrack, trackFrom}
+use Rattle.words.specs.Tracks.{frameFrom, frameRead, knownTrack, trackFrom}
 use Rattle.track_words.specs.Checking.{checkOf}
+use Rattle.track_words.specs.Pushing.{hasRoom, pushInto, storedRow}
 use Rattle.track_words.specs.Reading.{clockWords, trackOf}
 use Rattle.track_words.proofs.Checked.{passed-known, passed-within}
+use Rattle.track_words.proofs.Pushes.{push-outcome}
 use Rattle.capi.specs.Answers.{Answer, accepted, refused, foundWords, foundIn, secondsIn, progressIn, flagIn}
-use Rattle.capi.specs.Tracks.{onTrack, loopInto, looped, laxTrackLooping, laxTrackValueAt, laxTrackValue, laxTrackActiveTime, laxTrackDuration, laxTrackPlaybackDuration, laxTrackProgress, completionIn, laxTrackIsComplete, movedIn, laxTrackReset, laxTrackSeekTo, TrackStepping, steppedIn, laxTrackUpdate}
+use Rattle.capi.specs.Tracks.{onTrack, laxTrackPush, pushed, pushedBy, loopInto, looped, laxTrackLooping, laxTrackValueAt, laxTrackValue, laxTrackActiveTime, laxTrackDuration, laxTrackPlaybackDuration, laxTrackProgress, completionIn, laxTrackIsComplete, movedIn, laxTrackReset, laxTrackSeekTo, TrackStepping, steppedIn, laxTrackUpdate, Filling, filledIn, laxTrackValuesAt}
 
 abbrev pub answered : {A : Type 0} → ℕ → A → Answer A
 answered n a = record { number = n; left = a }
@@ -46,6 +59,12 @@ stepping words running = record { words = words; running = running }
 
 pub three : (n : ℕ) (words : List ℕ) (running : ℕ) (x : Answer TrackStepping) → answered n (stepping words running) ≡ x → (n ≡ x .number) × ((words ≡ x .left .words) × (running ≡ x .left .running))
 three n words running x e = (ap (λ (y : Answer TrackStepping). y .number) e, (ap (λ (y : Answer TrackStepping). y .left .words) e, ap (λ (y : Answer TrackStepping). y .left .running) e))
+
+abbrev pub filling : List Float → List ℕ → Filling
+filling out filled = record { out = out; filled = filled }
+
+pub parts : (n : ℕ) (out : List Float) (filled : List ℕ) (x : Answer Filling) → answered n (filling out filled) ≡ x → (n ≡ x .number) × ((out ≡ x .left .out) × (filled ≡ x .left .filled))
+parts n out filled x e = (ap (λ (y : Answer Filling). y .number) e, (ap (λ (y : Answer Filling). y .left .out) e, ap (λ (y : Answer Filling). y .left .filled) e))
 
 -- words that do not pass
 module _ (words : List ℕ) (n : ℕ) (number : n ≡ checkOf words) (some : n ≡ 0 → ⊥) where
@@ -97,6 +116,10 @@ module _ (words : List ℕ) (n : ℕ) (number : n ≡ checkOf words) (some : n �
   pub stopped-update : (step : Float) (out : ℕ) → answered n (stepping words out) ≡ laxTrackUpdate words step out
   unfolding laxTrackUpdate steppedIn updateOf
   stopped-update step out = stopped (stepping words out) (λ t. steppedIn (stepping words out) (updateOf t step)) (λ t e. rw e refl)
+
+  pub stopped-values : (times out : List Float) (filled : List ℕ) → answered n (filling out filled) ≡ laxTrackValuesAt words times out filled
+  unfolding laxTrackValuesAt filledIn batchOut batchCount batchUnsettled batchNumber
+  stopped-values times out filled = stopped (filling out filled) (λ t. filledIn (filling out filled) (batchOut t times out) (batchAnswer t times out)) (λ t e. rw e refl)
 
   pub stopped-looping : (m : List ℕ) (l : Loop) → loopFrom (loopAt m 0) ≡ mode.Known l → answered n words ≡ laxTrackLooping words m
   unfolding laxTrackLooping loopingOf
@@ -186,6 +209,24 @@ module _ (words : List ℕ) (fine : checkOf words ≡ 0) where
     unfolding steppedIn
     update-not r e = by-tick (ticked.Refused r) e
 
+  -- many times at once
+  module _ (times out : List Float) (filled : List ℕ) where
+    abbrev batch : Track → Answer Filling
+    batch t = filledIn (filling out filled) (batchOut t times out) (batchAnswer t times out)
+
+    pub values-none : wordAt words 512 ≡ 0 → refused (filling out filled) NoFrames ≡ laxTrackValuesAt words times out filled
+    unfolding laxTrackValuesAt filledIn batchOut batchCount batchUnsettled batchNumber trackFrom trackIn
+    values-none h = sym (went (filling out filled) batch ∙ rw (within, le-ltb 0 (wordAt words 512) (omega (arith, h))) refl)
+
+    module _ (some : 0 < wordAt words 512) where
+      pub values-short : length out < length times → refused (filling out filled) OutputTooShort ≡ laxTrackValuesAt words times out filled
+      unfolding laxTrackValuesAt filledIn batchOut batchCount batchUnsettled batchNumber trackFrom trackIn
+      values-short h = sym (went (filling out filled) batch ∙ rw (within, lt-ltb 0 (wordAt words 512) some, lt-leb (length times) (length out) h) refl)
+
+      pub values-is : length times ≤ length out → accepted (filling (filledOf (framesIn (trackOf words)) times out) (length times ∷ unsettledOf (framesIn (trackOf words)) times ∷ [])) ≡ laxTrackValuesAt words times out filled
+      unfolding laxTrackValuesAt filledIn batchOut batchCount batchUnsettled batchNumber trackFrom trackIn
+      values-is h = sym (went (filling out filled) batch ∙ rw (within, lt-ltb 0 (wordAt words 512) some, le-leb (length times) (length out) h) refl)
+
   module _ (m : List ℕ) (l : Loop) (known : loopFrom (loopAt m 0) ≡ mode.Known l) where
     pub looping-limit : modeFits l (baseOf (trackOf words)) ≡ false → refused words TrackLimit ≡ laxTrackLooping words m
     unfolding laxTrackLooping loopingOf
@@ -202,3 +243,66 @@ looping-unknown words m h = rw h (go (knownTrack (trackIn words)))
     go : (k : Bool) → answered 100 words ≡ cond k (answered 100 words) (answered 100 words)
     go true = refl
     go false = refl
+
+-- a push
+pub push-unknown : (words row : List ℕ) → frameRead (frameAt row 0) ≡ frame.Unknown → answered 100 words ≡ laxTrackPush words row
+unfolding laxTrackPush
+push-unknown words row h = rw h (go (knownTrack (trackIn words)))
+  where
+    go : (k : Bool) → answered 100 words ≡ cond k (answered 100 words) (answered 100 words)
+    go true = refl
+    go false = refl
+
+module _ (words row : List ℕ) (k : Keyframe) (known : frameRead (frameAt row 0) ≡ frame.Known k) where
+  pub push-stopped : (n : ℕ) → n ≡ checkOf words → (n ≡ 0 → ⊥) → answered n words ≡ laxTrackPush words row
+  unfolding laxTrackPush pushOf
+  push-stopped n e some = rw known (stopped words n e some words (pushed words row (frame.Known k)) (λ t h. rw h refl))
+
+  -- the frame with its time as it is stored
+  at-time : storedOf k .time ≡ floatAt (storedRow row) 0
+  unfolding frameRead frameFrom frameAt
+  at-time = go (isKind (wordAt row 2)) known
+    where
+      go : (b : Bool) → cond b (frame.Known (frameFrom (frameAt row 0))) frame.Unknown ≡ frame.Known k → storedOf k .time ≡ floatAt (storedRow row) 0
+      go true e =
+          let s : frameFrom (frameAt row 0) ≡ k = cc in
+          rw (← s) (sym (of-picked f32 (eq (floatAt row 0) zeroF) 0 (wordAt row 0) _ _ refl refl))
+      go false e = let z : _≡_ {A = ℕ} 0 1 = cc in absurd (omega (arith, z))
+
+  module _ (fine : checkOf words ≡ 0) where
+    went-push : laxTrackPush words row ≡ pushedBy words row (pushOf (trackOf words) k .outcome)
+    unfolding laxTrackPush
+    went-push = rw known (went words fine words (pushed words row (frame.Known k)))
+
+    pub push-not-supplied : suppliedOf (k .easing) ≡ false → refused words EasingNotSupplied ≡ laxTrackPush words row
+    unfolding pushOf
+    push-not-supplied s = sym (went-push ∙ rw (within words fine, s) refl)
+
+    module _ (supplied : suppliedOf (k .easing) ≡ true) where
+      pub push-parameter : fitsRecordOf (k .easing) ≡ false → refused words EasingParameter ≡ laxTrackPush words row
+      unfolding pushOf fitsRecordOf
+      push-parameter h = sym (went-push ∙ rw (within words fine, supplied, rw supplied at h) refl)
+
+      module _ (fits : fitsRecordOf (k .easing) ≡ true) where
+        params-fit : params.withinOf (params.paramsOf (k .easing)) ≡ true
+        unfolding fitsRecordOf
+        params-fit = rw supplied at fits
+
+        -- what is taken, by the stored time
+        takes-by : (time : Float) (b : Bool) → time ≡ floatAt (storedRow row) 0 → isTime time && isValue (k .value) && modeFits (trackOf words .looping) (laterOf (baseOf (trackOf words)) time) ≡ b → takesOf (trackOf words) (storedOf k) ≡ b
+        unfolding takesOf
+        takes-by time b e h = rw (at-time, ← e) h
+
+        pub push-limit : (time : Float) → time ≡ floatAt (storedRow row) 0 → isTime time && isValue (k .value) && modeFits (trackOf words .looping) (laterOf (baseOf (trackOf words)) time) ≡ false → refused words TrackLimit ≡ laxTrackPush words row
+        unfolding pushOf
+        push-limit time e h = sym (went-push ∙ rw (within words fine, supplied, params-fit, takes-by time false e h) refl)
+
+        module _ (time : Float) (e : time ≡ floatAt (storedRow row) 0) (h : isTime time && isValue (k .value) && modeFits (trackOf words .looping) (laterOf (baseOf (trackOf words)) time) ≡ true) where
+          outcome-is : pushOf (trackOf words) k .outcome ≡ cond (hasRoom words (storedRow row)) outcome.Done (outcome.Refused TrackFull)
+          outcome-is = push-outcome words (storedRow row) fine k supplied params-fit (takes-by time true e h) at-time
+
+          pub push-full : hasRoom words (storedRow row) ≡ false → refused words TrackFull ≡ laxTrackPush words row
+          push-full r = sym (went-push ∙ rw (outcome-is, r) refl)
+
+          pub push-is : hasRoom words (storedRow row) ≡ true → accepted (pushInto words (storedRow row)) ≡ laxTrackPush words row
+          push-is r = sym (went-push ∙ rw (outcome-is, r) refl)

@@ -5,6 +5,7 @@ use mathlib.Core.List.{List, [], _∷_}
 use lib.Dec.{eqb}
 use lib.ListN.{set, replicate}
 use lib.Ieee.{Float}
+use Rattle.math.specs.Bits.{bitsOf}
 use Rattle.refusal.specs.Refusing.{unless}
 use Rattle.keyframe.specs.declared.types.Track.{Track}
 use Rattle.keyframe.specs.declared.types.Changed.{Changed}
@@ -16,16 +17,19 @@ use Rattle.keyframe.specs.declared.types.Stepped.the-variants as stepped
 use Rattle.keyframe.specs.declared.types.Filled.{Filled}
 use Rattle.keyframe.specs.declared.types.Completion.{Completion}
 use Rattle.keyframe.specs.declared.types.Completion.the-variants as completion
-use Rattle.keyframe.specs.Pushing.{loopingOf}
+use Rattle.keyframe.specs.Pushing.{loopingOf, pushOf}
 use Rattle.keyframe.specs.Sampling.{valueAtOf, valueNow}
 use Rattle.keyframe.specs.Batch.{batchOut, batchAnswer}
 use Rattle.keyframe.specs.Playback.{activeTimeOf, durationIn, playbackIn, progressOf, completeOf}
 use Rattle.keyframe.specs.Stepping.{resetOf, seekToOf, updateOf}
 use Rattle.words.specs.declared.modes.LoopRead.{LoopRead}
 use Rattle.words.specs.declared.modes.LoopRead.the-variants as mode
+use Rattle.words.specs.declared.tracks.FrameRead.{FrameRead}
+use Rattle.words.specs.declared.tracks.FrameRead.the-variants as frame
 use Rattle.words.specs.Modes.{loopFrom, flagWord}
-use Rattle.words.specs.Tracks.{knownTrack, trackFrom}
-use Rattle.words.specs.Lent.{wordAt, loopAt, trackIn, clockInto}
+use Rattle.words.specs.Tracks.{frameRead, knownTrack, trackFrom}
+use Rattle.words.specs.Lent.{wordAt, frameAt, loopAt, trackIn, clockInto}
+use Rattle.track_words.specs.Pushing.{pushInto, storedRow}
 use Rattle.capi.specs.Answers.{Answer, accepted, refused, unknown, foundIn, secondsIn, progressIn, flagIn}
 
 -- the answer for the track that is read, or the one for words that are none
@@ -35,6 +39,26 @@ onTrack ws came answer = unless (knownTrack (trackIn ws)) (unknown came) (answer
 -- no frames, Once: every word is 0
 abbrev pub laxTrackNew : List ℕ
 laxTrackNew = replicate 518 0
+
+abbrev pub pushedBy : List ℕ → List ℕ → Outcome → Answer (List ℕ)
+pushedBy ws row outcome.Done = accepted (pushInto ws (storedRow row))
+pushedBy ws row (outcome.Refused r) = refused ws r
+
+abbrev pub pushed : List ℕ → List ℕ → FrameRead → Track → Answer (List ℕ)
+pushed ws row (frame.Known k) t = pushedBy ws row (pushOf t k .outcome)
+pushed ws row frame.Unknown t = unknown ws
+
+-- a frame of eight words, which are stored as they came but for a time of -0
+unfoldable pub laxTrackPush : List ℕ → List ℕ → Answer (List ℕ)
+laxTrackPush ws row = onTrack ws ws (pushed ws row (frameRead (frameAt row 0)))
+
+-- the row of a frame with the six words of an easing, and of a Linear one
+abbrev pub easedRow : Float → Float → List ℕ → List ℕ
+easedRow time value e =
+    bitsOf time ∷ bitsOf value ∷ wordAt e 0 ∷ wordAt e 1 ∷ wordAt e 2 ∷ wordAt e 3 ∷ wordAt e 4 ∷ wordAt e 5 ∷ []
+
+abbrev pub plainRow : Float → Float → List ℕ
+plainRow time value = bitsOf time ∷ bitsOf value ∷ 0 ∷ 0 ∷ 0 ∷ 0 ∷ 0 ∷ 0 ∷ []
 
 -- the mode's two words as they came; complete is cleared
 abbrev pub loopInto : List ℕ → List ℕ → List ℕ

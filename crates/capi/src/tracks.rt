@@ -1,28 +1,20 @@
 // The calls of a track, lent as 518 words. Each answers 0, or the number of its refusal, and then it has
 // written nothing.
 ghost use mathlib.Core.Path.{_≡_};
-ghost use Rattle.capi.specs.Tracks.{laxTrackNew, laxTrackLooping, laxTrackValueAt, laxTrackValue, laxTrackValuesAt, laxTrackActiveTime, laxTrackDuration, laxTrackPlaybackDuration, laxTrackProgress, laxTrackIsComplete, laxTrackReset, laxTrackSeekTo, laxTrackUpdate};
+ghost use Rattle.capi.specs.Tracks.{laxTrackNew, laxTrackPush, easedRow, plainRow, laxTrackLooping, laxTrackValueAt, laxTrackValue, laxTrackValuesAt, laxTrackActiveTime, laxTrackDuration, laxTrackPlaybackDuration, laxTrackProgress, laxTrackIsComplete, laxTrackReset, laxTrackSeekTo, laxTrackUpdate};
 use crate::answers::UNKNOWN_WORD;
-use crate::track_answers::put_track;
 use crate::track_answers::store_found;
-use crate::track_answers::track_in;
-use easing::Easing;
 use keyframe::Clock;
 use keyframe::Ticked;
 use refusal::Refusal;
 use track_words::check;
 use words::FrameRead;
-use words::LaxKeyframe;
 use words::LoopRead;
-use words::easing_in;
-use words::easing_words;
 use words::flag_word;
 use words::frame_in;
-use words::is_known;
 use words::loop_in;
 use words::loop_of;
 use words::read_frame;
-use words::track_of;
 
 #[no_mangle]
 pub extern "C" fn lax_track_new(w: &mut [u32; 518]) -> u32
@@ -202,25 +194,42 @@ pub extern "C" fn lax_track_update(w: &mut [u32; 518], step: f32, out: &mut u32)
     }
 }
 
-fn push_words(w: &mut [u32; 518], k: LaxKeyframe) -> u32
+// A frame at the time of another replaces it.
+fn push_row(w: &mut [u32; 518], row: &[u32; 8]) -> u32
+    ensures number { λ r. ⌜ r ≡ laxTrackPush (now (w .entry)) (now (row .entry)) .number ⌝ }
+    ensures words { λ _. ⌜ now (w .exit) ≡ laxTrackPush (now (w .entry)) (now (row .entry)) .left ⌝ }
 {
-    let t = track_in(w);
-    if is_known(t) {
-        let FrameRead::Known(frame) = read_frame(k) else {
-            return UNKNOWN_WORD;
-        };
-        return put_track(track_of(t).push_frame(frame), w);
+    let FrameRead::Known(k) = read_frame(frame_in(row)) else {
+        return UNKNOWN_WORD;
+    };
+    let number = check(w);
+    if number != 0 {
+        return number;
     }
-    UNKNOWN_WORD
+    let easing = k.easing;
+    if !easing.is_supplied() {
+        return Refusal::EasingNotSupplied.number();
+    }
+    if !easing.fits_record() {
+        return Refusal::EasingParameter.number();
+    }
+    let stored = track_words::stored_row(row);
+    if !track_words::takes(w, math::of_bits(stored[0]), k.value) {
+        return Refusal::TrackLimit.number();
+    }
+    if track_words::put(w, &stored) {
+        return 0;
+    }
+    Refusal::TrackFull.number()
 }
 
 #[no_mangle]
 pub extern "C" fn lax_track_push(w: &mut [u32; 518], time: f32, value: f32) -> u32
+    ensures number { λ r. ⌜ r ≡ laxTrackPush (now (w .entry)) (plainRow time value) .number ⌝ }
+    ensures words { λ _. ⌜ now (w .exit) ≡ laxTrackPush (now (w .entry)) (plainRow time value) .left ⌝ }
 {
-    push_words(
-        w,
-        LaxKeyframe::new(time, value, easing_words(Easing::Linear)),
-    )
+    let row = [math::bits(time), math::bits(value), 0, 0, 0, 0, 0, 0];
+    push_row(w, &row)
 }
 
 #[no_mangle]
@@ -230,14 +239,19 @@ pub extern "C" fn lax_track_push_eased(
     value: f32,
     e: &[u32; 6],
 ) -> u32
+    ensures number { λ r. ⌜ r ≡ laxTrackPush (now (w .entry)) (easedRow time value (now (e .entry))) .number ⌝ }
+    ensures words { λ _. ⌜ now (w .exit) ≡ laxTrackPush (now (w .entry)) (easedRow time value (now (e .entry))) .left ⌝ }
 {
-    push_words(w, LaxKeyframe::new(time, value, easing_in(e)))
+    let row = [math::bits(time), math::bits(value), e[0], e[1], e[2], e[3], e[4], e[5]];
+    push_row(w, &row)
 }
 
 #[no_mangle]
 pub extern "C" fn lax_track_push_frame(w: &mut [u32; 518], k: &[u32; 8]) -> u32
+    ensures number { λ r. ⌜ r ≡ laxTrackPush (now (w .entry)) (now (k .entry)) .number ⌝ }
+    ensures words { λ _. ⌜ now (w .exit) ≡ laxTrackPush (now (w .entry)) (now (k .entry)) .left ⌝ }
 {
-    push_words(w, frame_in(k))
+    push_row(w, k)
 }
 
 // The value at each time goes into the front of out. filled: how many were written, and how many of them
@@ -249,14 +263,21 @@ pub extern "C" fn lax_track_values_at(
     out: &mut [f32],
     filled: &mut [usize; 2],
 ) -> u32
+    ensures number { λ r. ⌜ r ≡ laxTrackValuesAt (now (w .entry)) (now (times .entry)) (now (out .entry)) (now (filled .entry)) .number ⌝ }
+    ensures output { λ _. ⌜ now (out .exit) ≡ laxTrackValuesAt (now (w .entry)) (now (times .entry)) (now (out .entry)) (now (filled .entry)) .left .out ⌝ }
+    ensures places { λ _. ⌜ now (filled .exit) ≡ laxTrackValuesAt (now (w .entry)) (now (times .entry)) (now (out .entry)) (now (filled .entry)) .left .filled ⌝ }
 {
-    let t = track_in(w);
-    if is_known(t) {
-        let a = track_of(t).fill_values(times, out);
-        if a.refusal == 0 {
-            *filled = [a.filled, a.unsettled];
-        }
-        return a.refusal;
+    let number = check(w);
+    if number != 0 {
+        return number;
     }
-    UNKNOWN_WORD
+    if track_words::count(w) == 0 {
+        return Refusal::NoFrames.number();
+    }
+    if out.len() < times.len() {
+        return Refusal::OutputTooShort.number();
+    }
+    let unsettled = track_words::fill(w, times, out);
+    *filled = [times.len(), unsettled];
+    0
 }

@@ -1,4 +1,6 @@
 -- Laws that the functions' proofs cite.
 pub mod Checked
 pub mod Placed
+pub mod Pushes
+pub mod Rows
 pub mod Sound

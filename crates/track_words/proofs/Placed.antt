@@ -1,12 +1,13 @@
 -- The places of a track's words as lists of frames. Assumes nothing.
 use Prim.Native.Nat.{ℕ, zero, suc, _+_, _*_, _<_, _≤_}
 use native.Mathlib.Nat.{eq-or-lt-of-le}
+use native.Mathlib.Numerals.{add-one}
 use native.Mathlib.Omega.{arith}
 use mathlib.Core.Path.{_≡_, refl, sym, _∙_}
-use mathlib.Core.List.{List, [], _∷_, _++_, map}
+use mathlib.Core.List.{List, [], _∷_, _++_, append-assoc, map}
 use mathlib.Core.Logic.{⊎-elim}
-use lib.ListN.{length, length-append, length-map, take, drop, getD, List·getD-append, List·getD-map}
-use lib.Seq.{length-take-le, take-at, take-append-le, take-all, getD-at}
+use lib.ListN.{length, length-append, length-map, take, drop, getD, set, List·getD-append, List·getD-map}
+use lib.Seq.{drop-cons, set-at, take-at, take-append-le, take-all, getD-at}
 use lib.Ieee.{nan}
 use Rattle.math.specs.Lists.{firsts}
 use Rattle.frames.specs.declared.frame.Keyframe.{Keyframe}
@@ -90,3 +91,13 @@ module _ (words : List ℕ) where
   pub time-at : (i : ℕ) → i < 64 → getD (timesOf (framesOf words)) i nan ≡ floatAt words (8 * i)
   unfolding frameIn frameFrom frameAt
   time-at i h = List·getD-map (λ (k : Keyframe). k .time) (framesOf words) i noFrame ∙ rw (frame-at i h)
+
+-- a list whose front is filled, place by place, from a sequence
+module _ {A : Type 0} (f : ℕ → A) (out : List A) where
+  pub filled-none : out ≡ firsts f 0 ++ drop 0 out
+  unfolding firsts
+  filled-none = refl
+
+  pub filled-one : (i : ℕ) → i < length out → set (firsts f i ++ drop i out) i (f i) ≡ firsts f (i + 1) ++ drop (i + 1) out
+  unfolding firsts
+  filled-one i h = rw (add-one, append-assoc, drop-cons out i (f i) h) (set-at (firsts f i) (getD out i (f i)) (drop (suc i) out) (f i) i (length-firsts f i))

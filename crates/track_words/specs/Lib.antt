@@ -1,3 +1,4 @@
 pub mod Reading
 pub mod Checking
+pub mod Pushing
 pub mod Inner

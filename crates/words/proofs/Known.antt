@@ -1,11 +1,11 @@
 -- The places of a track's words, and their kinds from place i on. Assumes nothing.
 use Prim.Native.Nat.{ℕ, _+_, _<_, _≤_}
 use native.Mathlib.Omega.{arith}
-use borrow.Author.Tests.{eqb-false, ltb-false}
+use borrow.Author.Tests.{ltb-false}
 use mathlib.Core.Path.{_≡_, refl, sym, _∙_}
-use mathlib.Core.Bool.{Bool, true, false, _&&_, _||_, false≢true}
+use mathlib.Core.Bool.{true, _&&_}
 use mathlib.Core.List.{List}
-use lib.Dec.{eqb, ltb}
+use lib.Dec.{ltb}
 use lib.ListN.{length, length-map, take, drop, getD}
 use lib.Ieee.{nan}
 use mir.Val.{Val}
@@ -41,13 +41,3 @@ module _ (ws : List LaxKeyframe) (n : ℕ) (fit : n ≤ length ws) where
   pub known-end : knownKinds (drop n (take n ws)) ≡ true
   unfolding knownKinds
   known-end = rw (back ws n fit)
-
--- a count that passes the first test
-pub few-places : (n : ℕ) → eqb n 0 || ltb 64 n ≡ false → (1 ≤ n) × (n ≤ 64)
-few-places n h =
-    let p = neither (eqb n 0) (ltb 64 n) h in
-    (omega (arith, eqb-false n 0 (p .0)), ltb-false 64 n (p .1))
-  where
-    neither : (a b : Bool) → a || b ≡ false → (a ≡ false) × (b ≡ false)
-    neither true b e = absurd (false≢true (sym e))
-    neither false b e = (refl, e)
