@@ -1,6 +1,7 @@
 -- What a run and a replay leave, put together from its parts. Assumes nothing.
 use Prim.Native.Nat.{ℕ}
 use mathlib.Core.Path.{_≡_, refl}
+use mathlib.Core.Bool.{Bool}
 use mathlib.Core.List.{List}
 use lib.Ieee.{Float}
 use Rattle.steps.specs.declared.run.Run.{Run}
@@ -16,7 +17,7 @@ pub ran-as : (came : Running) (course : Course) (run : Run) (n : ℕ) (ws out fo
 unfolding ranIn
 ran-as came course run n ws out folds values e a b c d f = rw (a, b, c, d, f, e) refl
 
-pub replayed-as : (came : Replaying) (reading : Reading) (r : Replayed) (n : ℕ) (ws gaps reached : List ℕ) → r ≡ readAs reading → n ≡ outcomeNumber (r .outcome) → ws ≡ replayedWords (came .words) r → reached ≡ replayedReached (came .reached) r → gaps ≡ over (reading .gaps) (came .gaps)
-    → answering n (record { words = ws; gaps = gaps; reached = reached }) ≡ replayedIn came reading
+pub replayed-as : (sound : Bool) (came : Replaying) (reading : Reading) (r : Replayed) (n : ℕ) (ws gaps reached : List ℕ) → r ≡ readAs reading → n ≡ outcomeNumber (r .outcome) → ws ≡ replayedWords sound (came .words) r → reached ≡ replayedReached (came .reached) r → gaps ≡ over (reading .gaps) (came .gaps)
+    → answering n (record { words = ws; gaps = gaps; reached = reached }) ≡ replayedIn sound came reading
 unfolding replayedIn
-replayed-as came reading r n ws gaps reached e a b c d = rw (a, b, c, d, e) refl
+replayed-as sound came reading r n ws gaps reached e a b c d = rw (a, b, c, d, e) refl

@@ -2,7 +2,7 @@
 ghost use mathlib.Core.Path.{_≡_};
 ghost use Rattle.steps.specs.Course.{outcomeNumber};
 ghost use Rattle.capi.specs.Answers.{answering};
-ghost use Rattle.capi.specs.Replays.{lastFrom, lastWord, replayedWords, replayedReached, laxReplay, laxReplayOn};
+ghost use Rattle.capi.specs.Replays.{lastFrom, lastWord, reachedWords, replayedWords, replayedReached, laxReplay, laxReplayOn};
 use crate::answers::UNKNOWN_WORD;
 use crate::answers::outcome_number;
 use reader::Last;
@@ -42,36 +42,37 @@ fn last_word(last: Last) -> u64
     }
 }
 
-// reached: the records missing, the folds, the last number, and how many records were read. Where
-// none was read and the number is not 0, nothing is written.
-fn put_replayed(replayed: Replayed, w: &mut [u32; 18], reached: &mut [u64; 4]) -> u32
+// The records missing, the folds, the last number, and how many records were read.
+fn counts(replay: Replay, done: usize) -> [u64; 4]
+    ensures { λ r. ⌜ r ≡ reachedWords replay done ⌝ }
+{
+    let last = replay.last;
+    [replay.missing, replay.folds, last_word(last), done as u64]
+}
+
+// Where no record was read and the number is not 0, nothing is written. sound: whether the tween that
+// came was within its limits.
+fn put_replayed(sound: bool, replayed: Replayed, w: &mut [u32; 18], reached: &mut [u64; 4]) -> u32
     ensures number { λ r. ⌜ r ≡ outcomeNumber (replayed .outcome) ⌝ }
-    ensures words { λ _. ⌜ now (w .exit) ≡ replayedWords (now (w .entry)) replayed ⌝ }
+    ensures words { λ _. ⌜ now (w .exit) ≡ replayedWords sound (now (w .entry)) replayed ⌝ }
     ensures place { λ _. ⌜ now (reached .exit) ≡ replayedReached (now (reached .entry)) replayed ⌝ }
 {
     let outcome = replayed.outcome;
     let number = outcome_number(outcome);
     let now = replayed.reached;
-    let last = now.last;
     if replayed.done == 0 {
         if number == 0 {
-            *reached = [
-                now.missing,
-                now.folds,
-                last_word(last),
-                replayed.done as u64,
-            ];
+            *reached = counts(now, replayed.done);
         }
+        return number;
+    }
+    if !sound {
+        *reached = counts(now, replayed.done);
         return number;
     }
     let tween = now.tween;
     store_tween(w, tween);
-    *reached = [
-        now.missing,
-        now.folds,
-        last_word(last),
-        replayed.done as u64,
-    ];
+    *reached = counts(now, replayed.done);
     number
 }
 
@@ -85,7 +86,10 @@ pub extern "C" fn lax_log_replay(
     ensures { λ r. ⌜ answering r (record { words = now (w .exit); gaps = now (gaps .exit); reached = now (reached .exit) }) ≡ laxReplay (now (w .entry)) (now (log .entry)) (now (gaps .entry)) (now (reached .entry)) ⌝ }
 {
     match tween_of(tween_in(w)) {
-        TweenRead::Known(tween) => put_replayed(replay(tween, log, gaps), w, reached),
+        TweenRead::Known(tween) => {
+            let sound = tween::within(tween);
+            put_replayed(sound, replay(tween, log, gaps), w, reached)
+        }
         TweenRead::Unknown => UNKNOWN_WORD,
     }
 }
@@ -111,5 +115,6 @@ pub extern "C" fn lax_log_replay_on(
         missing: reached[0],
         folds: reached[1],
     };
-    put_replayed(replay_on(begun, records, gaps), w, reached)
+    let sound = tween::within(tween);
+    put_replayed(sound, replay_on(begun, records, gaps), w, reached)
 }

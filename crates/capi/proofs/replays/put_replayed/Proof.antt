@@ -12,8 +12,10 @@ put-replayed-spec =
     (tie.spec
     (λ c κs. search needs)
     (λ c κs. search needs)
-    (λ c. (c .before .before .before .before .before .before .outcome-number .ensures, (simp (c .before .before .before .if1 .taken), simp (c .before .before .before .if1 .taken, ← (c .before .before .before .before .before .before .outcome-number .ensures), c .before .before .if2 .taken, c .before .last-word .ensures))))
-    (λ c. (c .before .before .before .before .outcome-number .ensures, (simp (c .before .if1 .taken), simp (c .before .if1 .taken, ← (c .before .before .before .before .outcome-number .ensures), ne-eqb _ _ (c .if2 .left)))))
+    (λ c. ?)
+    (λ c. ?)
+    (λ c κs. search needs)
+    (λ c. ?)
     (λ c κs. search needs)
     (λ c κs. search needs)
-    (λ c. (c .before .before .before .before .before .before .before .before .outcome-number .ensures, (simp (ne-eqb _ _ (c .before .before .before .before .before .if1 .left), c .before .before .store-tween .ensures), simp (ne-eqb _ _ (c .before .before .before .before .before .if1 .left), c .before .last-word2 .ensures)))))
+    (λ c. ?))
