@@ -242,7 +242,16 @@ pub extern "C" fn lax_track_push_eased(
     ensures number { λ r. ⌜ r ≡ laxTrackPush (now (w .entry)) (easedRow time value (now (e .entry))) .number ⌝ }
     ensures words { λ _. ⌜ now (w .exit) ≡ laxTrackPush (now (w .entry)) (easedRow time value (now (e .entry))) .left ⌝ }
 {
-    let row = [math::bits(time), math::bits(value), e[0], e[1], e[2], e[3], e[4], e[5]];
+    let row = [
+        math::bits(time),
+        math::bits(value),
+        e[0],
+        e[1],
+        e[2],
+        e[3],
+        e[4],
+        e[5],
+    ];
     push_row(w, &row)
 }
 

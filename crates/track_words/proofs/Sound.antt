@@ -104,8 +104,15 @@ module _ (words : List ℕ) (n : ℕ) (most : n ≤ 64) where
   sound-step i above h a =
       let fit : n ≤ length (trackIn words .frames) = omega (arith, places-long words) in
       let fits : n ≤ length (framesOf words) = omega (arith, frames-long words) in
-      rw (known-step (trackIn words .frames) n fit i h, after-step (framesOf words) n fits i (beforeOf above) h, words-at words i (omega arith), frame-at words i (omega arith),
-      time-word (wordAt words (8 * i)), value-test (wordAt words (8 * i + 1)), add-one (wordAt words (8 * i)))
+      rw (
+        known-step (trackIn words .frames) n fit i h,
+        after-step (framesOf words) n fits i (beforeOf above) h,
+        words-at words i (omega arith),
+        frame-at words i (omega arith),
+        time-word (wordAt words (8 * i)),
+        value-test (wordAt words (8 * i + 1)),
+        add-one (wordAt words (8 * i)),
+      )
       (shuffled (isKind (wordAt words (8 * i + 2))) (fitsRecordOf (easingIn (easingFrom (easingAt words (8 * i + 2))))) (leb (wordAt words (8 * i)) 0x4b80_0000) (leb (wordAt words (8 * i + 1) % 0x8000_0000) 0x4b80_0000)
       (lt (beforeOf above) (f32 (wordAt words (8 * i)))) (leb above (wordAt words (8 * i))) (knownKinds (drop (i + 1) (take n (trackIn words .frames)))) (framesAfter (f32 (wordAt words (8 * i))) (drop (i + 1) (take n (framesOf words)))) (λ e. later above (wordAt words (8 * i)) a (leb-true _ _ e)))
 

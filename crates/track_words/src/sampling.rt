@@ -34,11 +34,7 @@ fn between(w: &[u32; 518], low: usize, t: f32) -> Found
     let next = 8 * (low + 1);
     let p = frames::along(float_at(w, at), float_at(w, next), t);
     let found = words::eased(easing_at(w, at + 2), p);
-    found.with_value(math::blend(
-        float_at(w, at + 1),
-        float_at(w, next + 1),
-        found.value,
-    ))
+    found.with_value(math::blend(float_at(w, at + 1), float_at(w, next + 1), found.value))
 }
 
 pub fn sample(w: &[u32; 518], n: usize, secs: f32) -> Found
