@@ -66,12 +66,12 @@ fn put_replayed(sound: bool, replayed: Replayed, w: &mut [u32; 18], reached: &mu
         }
         return number;
     }
-    if !sound {
+    if sound {
+        let tween = now.tween;
+        store_tween(w, tween);
         *reached = counts(now, replayed.done);
         return number;
     }
-    let tween = now.tween;
-    store_tween(w, tween);
     *reached = counts(now, replayed.done);
     number
 }

@@ -25,5 +25,6 @@ lax-log-replay-on-spec =
     (λ c. search needs)
     (λ c κs. search needs)
     (λ c κs. search needs)
+    (λ c κs. search needs)
     (λ c. search needs)
-    (λ c. rw (sym (rw (c .before .before .before .before .before .before .before .before .before .before .before .before .before .before .before .before .before .before .tween-in .ensures) at (c .before .before .before .before .before .before .before .before .before .before .before .before .before .before .before .before .before .tween-of .ensures)) ∙ c .before .before .before .before .before .before .before .before .before .before .before .before .before .before .before .tween .given .1, sym (c .before .before .before .before .before .before .before .before .before .before .before .before .last-of .ensures) ∙ c .before .before .before .before .before .before .before .before .before .before .last .given .1) (replayed-as _ _ _ _ _ _ _ (c .before .before .before .before .before .replay-on .ensures .0) (c .put-replayed .ensures .0) (c .put-replayed .ensures .1 .0) (c .put-replayed .ensures .1 .1) (c .before .before .before .before .before .replay-on .ensures .1))))
+    (λ c. rw (sym (rw (c .before .before .before .before .before .before .before .before .before .before .before .before .before .before .before .before .before .before .before .tween-in .ensures) at (c .before .before .before .before .before .before .before .before .before .before .before .before .before .before .before .before .before .before .tween-of .ensures)) ∙ c .before .before .before .before .before .before .before .before .before .before .before .before .before .before .before .before .tween .given .1, sym (c .before .before .before .before .before .before .before .before .before .before .before .before .before .last-of .ensures) ∙ c .before .before .before .before .before .before .before .before .before .before .before .last .given .1, ← (c .before .before .before .before .before .before .before .within .ensures)) (replayed-as _ _ _ _ _ _ _ _ (c .before .before .before .before .before .replay-on .ensures .0) (c .put-replayed .ensures .0) (c .put-replayed .ensures .1 .0) (c .put-replayed .ensures .1 .1) (c .before .before .before .before .before .replay-on .ensures .1))))
