@@ -5,11 +5,19 @@ ghost use Prim.Native.Nat.{_+_, _-_, _<_, _≤_};
 ghost use lib.ListN.{take};
 ghost use Rattle.frames.specs.Inner.{counted, timesOf};
 ghost use Rattle.frames.specs.Limits.{framesWithin};
-ghost use Rattle.frames.specs.Sampling.{betweenOf, sampleOf};
+ghost use Rattle.frames.specs.Sampling.{easedOf, betweenOf, sampleOf};
+ghost use Rattle.words.specs.Kinds.{easingFrom};
+ghost use Rattle.words.specs.Tracks.{easingIn};
+ghost use Rattle.words.specs.Lent.{easingAt};
 ghost use Rattle.track_words.specs.Reading.{frameIn, framesOf};
 use crate::reading::easing_at;
 use crate::reading::float_at;
+use crate::reading::word_at;
 use bezier::Found;
+use easing_words::Drawn;
+use easing_words::Searched;
+use easing_words::draw;
+use easing_words::search;
 
 // How many of the first n times, the first and the last left out, are at or before t.
 fn interval(w: &[u32; 518], n: usize, t: f32) -> usize
@@ -26,6 +34,29 @@ fn interval(w: &[u32; 518], n: usize, t: f32) -> usize
     count as usize
 }
 
+// A curve that needs no easing is drawn by its kind's number.
+fn eased(w: &[u32; 518], at: usize, p: f32) -> Found
+    requires { ⌜ at ≤ 506 ⌝ }
+    ensures { λ r. ⌜ r ≡ easedOf (easingIn (easingFrom (easingAt (now (w .entry)) at))) p ⌝ }
+{
+    if math::is_nan(p) {
+        return words::eased(easing_at(w, at), p);
+    }
+    let u = math::clamp01(p);
+    let kind = word_at(w, at);
+    if let Drawn::At(v) = draw(kind, u) {
+        return Found::plain(v);
+    }
+    let a = word_at(w, at + 1);
+    let b = word_at(w, at + 2);
+    let c = word_at(w, at + 3);
+    let d = word_at(w, at + 4);
+    if let Searched::At(found) = search(kind, a, b, c, d, u) {
+        return found;
+    }
+    words::eased(easing_at(w, at), p)
+}
+
 fn between(w: &[u32; 518], low: usize, t: f32) -> Found
     requires { ⌜ low < 63 ⌝ }
     ensures { λ r. ⌜ r ≡ betweenOf (frameIn (now (w .entry)) low) (frameIn (now (w .entry)) (low + 1)) t ⌝ }
@@ -33,7 +64,7 @@ fn between(w: &[u32; 518], low: usize, t: f32) -> Found
     let at = 8 * low;
     let next = 8 * (low + 1);
     let p = frames::along(float_at(w, at), float_at(w, next), t);
-    let found = words::eased(easing_at(w, at + 2), p);
+    let found = eased(w, at + 2, p);
     found.with_value(math::blend(float_at(w, at + 1), float_at(w, next + 1), found.value))
 }
 

@@ -20,7 +20,6 @@ between-spec =
     (λ c κs. search needs)
     (λ c. search needs)
     (λ c κs. search needs)
-    (λ c κs. search needs)
     (λ c. search needs)
     (λ c κs. search needs)
     (λ c. search needs)
@@ -29,4 +28,4 @@ between-spec =
     (λ c κs. search needs)
     (λ c.
     let b = c .before .before .before .before in
-    rw (c .with-value .ensures, c .before .blend .ensures, c .before .before .float-at4 .ensures, c .before .before .before .float-at3 .ensures, b .eased .ensures, b .before .easing-at .ensures, b .before .before .along .ensures, b .before .before .before .float-at2 .ensures, b .before .before .before .before .float-at .ensures)))
+    rw (c .with-value .ensures, c .before .blend .ensures, c .before .before .float-at4 .ensures, c .before .before .before .float-at3 .ensures, b .eased .ensures, b .before .along .ensures, b .before .before .float-at2 .ensures, b .before .before .before .float-at .ensures)))
