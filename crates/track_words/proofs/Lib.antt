@@ -5,3 +5,4 @@ pub mod Placed
 pub mod Pushes
 pub mod Rows
 pub mod Sound
+pub mod Spliced
