@@ -1,5 +1,6 @@
 -- Laws that the functions' proofs cite.
 pub mod Checked
+pub mod Entered
 pub mod Moved
 pub mod Placed
 pub mod Pushes
