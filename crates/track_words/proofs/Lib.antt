@@ -3,6 +3,7 @@ pub mod Checked
 pub mod Entered
 pub mod Moved
 pub mod Placed
+pub mod PushBack
 pub mod Pushes
 pub mod Rows
 pub mod Sound

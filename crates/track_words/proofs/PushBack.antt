@@ -1,0 +1,110 @@
+-- The words that a push leaves are read as the track that it makes. Assumes nothing.
+use Prim.Native.Nat.{ℕ, suc, _+_, _-_, _*_, _<_, _≤_}
+use native.Mathlib.Omega.{arith}
+use mathlib.Core.Path.{_≡_, refl, sym, ap, _∙_}
+use mathlib.Core.Bool.{Bool, true, false, cond, _&&_}
+use mathlib.Core.List.{List, [], _∷_, _++_}
+use lib.Dec.{leb, ltb}
+use lib.ListN.{length, take, drop, getD}
+use lib.Seq.{drop-at, drop-drop, take-at}
+use lib.Ieee.{Float, eq, lt}
+use borrow.Author.Tests.{le-leb, ltb-true, ltb-false}
+use Rattle.math.specs.Lists.{firsts}
+use Rattle.math.specs.Rounded.{f32, zeroF}
+use Rattle.math.proofs.Choice.{and-both, by-test, of-picked}
+use Rattle.frames.specs.declared.frame.Keyframe.{Keyframe}
+use Rattle.frames.specs.Inner.{earlierOf}
+use Rattle.frames.specs.Limits.{noFrame}
+use Rattle.frames.specs.Pushing.{pushedOf, putOf}
+use Rattle.frames.specs.Sampling.{leading}
+use Rattle.keyframe.specs.Limits.{framesIn}
+use Rattle.keyframe.specs.Pushing.{storedOf, withFrames}
+use Rattle.words.specs.declared.tracks.FrameRead.the-variants as frame
+use Rattle.words.specs.declared.tracks.LaxKeyframe.{LaxKeyframe}
+use Rattle.words.specs.Kinds.{isKind}
+use Rattle.words.specs.Lent.{wordAt, floatAt, easingAt, frameAt, trackIn}
+use Rattle.words.specs.Tracks.{blanks, frameFrom, frameRead, framesFrom, trackFrom}
+use Rattle.words.proofs.Known.{all-places}
+use Rattle.track_words.specs.Pushing.{hasRoom, placeOf, pushInto, replaces, storedRow}
+use Rattle.track_words.specs.Reading.{frameIn, framesOf, trackOf}
+use Rattle.track_words.specs.Promises.{Pushable, PushBack, PushFrames}
+use Rattle.track_words.proofs.Checked.{passed-few}
+use Rattle.track_words.proofs.Entered.{Headed, replacing, inserting, replaced-front, replaced-here, replaced-back, replaced-head, inserted-front, inserted-here, inserted-back, inserted-head}
+use Rattle.track_words.proofs.Placed.{length-firsts, firsts-at, take-firsts, map-firsts}
+use Rattle.track_words.proofs.Spliced.{hasTime, spliced, pushed-spliced, firsts-spliced}
+
+leading-most : (q : Keyframe → Bool) (l : List Keyframe) → leading q l ≤ length l
+unfolding leading
+leading-most q [] = omega arith
+leading-most q (f ∷ fs) = by-test (λ (m : ℕ). m ≤ suc (length fs)) (q f) (suc (leading q fs)) 0 (λ _. omega (arith, leading-most q fs)) (λ _. omega arith)
+
+-- w has the frames of the words that came with k pushed among them, and their head
+record Took (words w : List ℕ) (k : Keyframe) : Type 0 where
+  n : ℕ
+  more : wordAt words 512 ≤ n
+  most : n ≤ 64
+  head : Headed words w n
+  frames : firsts (frameIn w) n ≡ pushedOf k (firsts (frameIn words) (wordAt words 512))
+
+module _ (words row : List ℕ) (long : length words ≡ 518) (few : wordAt words 512 ≤ 64) (k : Keyframe) (is : frameIn row 0 ≡ k) where
+  abbrev n : ℕ
+  n = wordAt words 512
+
+  abbrev p : ℕ
+  p = placeOf words row
+
+  abbrev came : List Keyframe
+  came = firsts (frameIn words) n
+
+  time-is : k .time ≡ floatAt row 0
+  unfolding frameIn frameFrom frameAt
+  time-is = rw (← is) refl
+
+  place-is : placeOf words row ≡ earlierOf (k .time) (firsts (frameIn words) (wordAt words 512))
+  unfolding framesOf
+  place-is = rw (take-firsts (frameIn words) n 64 few, time-is) refl
+
+  low : placeOf words row ≤ wordAt words 512
+  low = omega (arith, place-is, leading-most (λ (f : Keyframe). lt (f .time) (k .time)) came, length-firsts (frameIn words) n)
+
+  replaces-is : hasTime (firsts (frameIn words) (wordAt words 512)) (placeOf words row) (k .time) ≡ replaces words row
+  unfolding frameIn frameFrom frameAt
+  replaces-is = rw (length-firsts (frameIn words) n, time-is) (go (ltb p n) refl)
+    where
+      go : (b : Bool) → ltb p n ≡ b → b && eq (getD came p noFrame .time) (floatAt row 0) ≡ b && eq (floatAt words (8 * p)) (floatAt row 0)
+      go true e = rw (firsts-at (frameIn words) n p noFrame (ltb-true p n e)) refl
+      go false e = refl
+
+  pushed-is : (b : Bool) → replaces words row ≡ b → spliced (firsts (frameIn words) (wordAt words 512)) (placeOf words row) k (cond b (suc (placeOf words row)) (placeOf words row)) ≡ pushedOf k (firsts (frameIn words) (wordAt words 512))
+  pushed-is b e = sym (pushed-spliced k came ∙ rw (← place-is, replaces-is, e) refl)
+
+  replaced : replaces words row ≡ true → Took words (replacing words row (wordAt words 512) (placeOf words row)) k
+  replaced e =
+      let below : p < n = ltb-true p n (and-both (ltb p n) (eq (floatAt words (8 * p)) (floatAt row 0)) e .0) in
+      let all : p + suc (n - suc p) ≡ n = omega arith in
+      let s = firsts-spliced (frameIn words) (frameIn (replacing words row n p)) n p (suc p) k low below (replaced-front words row long n p few below) (replaced-here words row long n p few below ∙ is) (replaced-back words row long n p few below) in
+      record {
+        n = n;
+        more = omega arith;
+        most = few;
+        head = replaced-head words row long n p few below;
+        frames = (rw all at s) ∙ pushed-is true e;
+      }
+
+  inserted : replaces words row ≡ false → wordAt words 512 < 64 → Took words (inserting words row (wordAt words 512) (placeOf words row)) k
+  inserted e room =
+      let all : p + suc (n - p) ≡ n + 1 = omega (arith, low) in
+      let s = firsts-spliced (frameIn words) (frameIn (inserting words row n p)) n p p k low low (inserted-front words row long n p room low) (inserted-here words row long n p room low ∙ is) (inserted-back words row long n p room low) in
+      record {
+        n = n + 1;
+        more = omega arith;
+        most = omega arith;
+        head = inserted-head words row long n p room low;
+        frames = (rw all at s) ∙ pushed-is false e;
+      }
+
+  took : hasRoom words row ≡ true → Took words (pushInto words row) k
+  unfolding pushInto
+  took room =
+      by-test (λ (w : List ℕ). Took words w k) (replaces words row) (replacing words row n p) (inserting words row n p) replaced
+      (λ e. inserted e (ltb-true n 64 (rw e at room)))
