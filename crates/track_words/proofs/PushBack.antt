@@ -108,3 +108,72 @@ module _ (words row : List ℕ) (long : length words ≡ 518) (few : wordAt word
   took room =
       by-test (λ (w : List ℕ). Took words w k) (replaces words row) (replacing words row n p) (inserting words row n p) replaced
       (λ e. inserted e (ltb-true n 64 (rw e at room)))
+
+-- the places of a track: its frames, then blanks
+places-are : (words : List ℕ) → wordAt words 512 ≤ 64 → trackOf words .frames ≡ firsts (frameIn words) (wordAt words 512) ++ drop (wordAt words 512) blanks
+unfolding trackFrom framesFrom trackIn frameIn
+places-are words h =
+    let n = wordAt words 512 in
+    let f : ℕ → LaxKeyframe = λ i. frameAt words (8 * i) in
+    rw (all-places n h, take-firsts f n 64 h, map-firsts frameFrom f n) refl
+
+count-is : (words : List ℕ) → trackOf words .count ≡ wordAt words 512
+unfolding trackFrom trackIn
+count-is words = refl
+
+frames-are : (words : List ℕ) → wordAt words 512 ≤ 64 → framesIn (trackOf words) ≡ firsts (frameIn words) (wordAt words 512)
+frames-are words h =
+    let n = wordAt words 512 in
+    rw (count-is words, places-are words h) (take-at (firsts (frameIn words) n) (drop n blanks) n (length-firsts (frameIn words) n))
+
+module _ (words w : List ℕ) (few : wordAt words 512 ≤ 64) (k : Keyframe) (took : Took words w k) where
+  fits : wordAt w 512 ≤ 64
+  fits = omega (arith, took .head .count, took .most)
+
+  frames-taken : framesIn (trackOf w) ≡ pushedOf k (framesIn (trackOf words))
+  frames-taken = frames-are w fits ∙ rw (took .head .count, frames-are words few) (took .frames)
+
+  -- how many frames there are then
+  long-is : length (pushedOf k (framesIn (trackOf words))) ≡ took .n
+  long-is = rw (frames-are words few, ← took .frames) (length-firsts (frameIn w) (took .n))
+
+  behind : drop (took .n) (trackOf words .frames) ≡ drop (took .n) blanks
+  behind =
+      let n = wordAt words 512 in
+      let e : took .n ≡ n + (took .n - n) = omega (arith, took .more) in
+      let f = firsts (frameIn words) n in
+      rw (places-are words few, e, ← drop-drop (took .n - n) n (f ++ drop n blanks), ← drop-drop (took .n - n) n blanks, drop-at f (drop n blanks) n (length-firsts (frameIn words) n)) refl
+
+  places-taken : trackOf w .frames ≡ (let l = pushedOf k (framesIn (trackOf words)) in l ++ drop (length l) (trackOf words .frames))
+  places-taken = places-are w fits ∙ rw (long-is, behind, took .head .count, frames-are words few, took .frames) refl
+
+  track-taken : trackOf w ≡ (let l = pushedOf k (framesIn (trackOf words)) in withFrames (trackOf words) (l ++ drop (length l) (trackOf words .frames)) (length l))
+  unfolding trackFrom trackIn
+  track-taken =
+      let kept = took .head .kept in
+      rw (places-taken, long-is, took .head .count, took .head .complete, kept 513 (omega arith) (omega arith), kept 514 (omega arith) (omega arith), kept 515 (omega arith) (omega arith), kept 516 (omega arith) (omega arith)) refl
+
+-- the row that is stored is the frame that is stored
+stored-is : (row : List ℕ) (k : Keyframe) → frameRead (frameAt row 0) ≡ frame.Known k → frameIn (storedRow row) 0 ≡ storedOf k
+unfolding frameRead frameIn frameFrom frameAt
+stored-is row k known = go (isKind (wordAt row 2)) known
+  where
+    go : (b : Bool) → cond b (frame.Known (frameFrom (frameAt row 0))) frame.Unknown ≡ frame.Known k → frameIn (storedRow row) 0 ≡ storedOf k
+    go true e =
+        let s : frameFrom (frameAt row 0) ≡ k = cc in
+        rw (← s, of-picked f32 (eq (floatAt row 0) zeroF) 0 (wordAt row 0) _ _ refl refl) refl
+    go false e = let z : _≡_ {A = ℕ} 0 1 = cc in absurd (omega (arith, z))
+
+taken : (words row : List ℕ) (k : Keyframe) → Pushable words row k → hasRoom words (storedRow row) ≡ true → Took words (pushInto words (storedRow row)) (storedOf k)
+taken words row k from room = took words (storedRow row) (from .long) (passed-few words (from .fine)) (storedOf k) (stored-is row k (from .known)) room
+
+pub push-frames : PushFrames
+push-frames words row k from room = frames-taken words (pushInto words (storedRow row)) (passed-few words (from .fine)) (storedOf k) (taken words row k from room)
+
+pub push-back : PushBack
+unfolding putOf
+push-back words row k from room =
+    let few = passed-few words (from .fine) in
+    let t = taken words row k from room in
+    let w = pushInto words (storedRow row) in
+    rw (long-is words w few (storedOf k) t, le-leb (t .n) 64 (t .most)) (track-taken words w few (storedOf k) t ∙ rw (long-is words w few (storedOf k) t) refl)
