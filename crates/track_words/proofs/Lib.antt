@@ -4,6 +4,7 @@ pub mod Entered
 pub mod Moved
 pub mod Placed
 pub mod PushBack
+pub mod PushDone
 pub mod Pushes
 pub mod Rows
 pub mod Sound

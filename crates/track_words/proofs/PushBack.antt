@@ -56,7 +56,7 @@ module _ (words row : List ℕ) (long : length words ≡ 518) (few : wordAt word
   abbrev came : List Keyframe
   came = firsts (frameIn words) n
 
-  time-is : k .time ≡ floatAt row 0
+  pub time-is : k .time ≡ floatAt row 0
   unfolding frameIn frameFrom frameAt
   time-is = rw (← is) refl
 
@@ -154,7 +154,7 @@ module _ (words w : List ℕ) (few : wordAt words 512 ≤ 64) (k : Keyframe) (to
       rw (places-taken, long-is, took .head .count, took .head .complete, kept 513 (omega arith) (omega arith), kept 514 (omega arith) (omega arith), kept 515 (omega arith) (omega arith), kept 516 (omega arith) (omega arith)) refl
 
 -- the row that is stored is the frame that is stored
-stored-is : (row : List ℕ) (k : Keyframe) → frameRead (frameAt row 0) ≡ frame.Known k → frameIn (storedRow row) 0 ≡ storedOf k
+pub stored-is : (row : List ℕ) (k : Keyframe) → frameRead (frameAt row 0) ≡ frame.Known k → frameIn (storedRow row) 0 ≡ storedOf k
 unfolding frameRead frameIn frameFrom frameAt
 stored-is row k known = go (isKind (wordAt row 2)) known
   where

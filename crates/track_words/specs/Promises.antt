@@ -33,8 +33,8 @@ abbrev pub PushBack : Type 0
 PushBack =
     (words row : List ℕ) (k : Keyframe) → Pushable words row k → hasRoom words (storedRow row) ≡ true
     → let t = trackOf words in
-      let p = putOf (t .frames) (t .count) (storedOf k) in
-      trackOf (pushInto words (storedRow row)) ≡ withFrames t (p .frames) (p .count)
+    let p = putOf (t .frames) (t .count) (storedOf k) in
+    trackOf (pushInto words (storedRow row)) ≡ withFrames t (p .frames) (p .count)
 
 -- where the track takes k, the words are read as the track that it becomes
 abbrev pub PushDone : Type 0
