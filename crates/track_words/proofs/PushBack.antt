@@ -79,10 +79,11 @@ module _ (words row : List ℕ) (long : length words ≡ 518) (few : wordAt word
   pushed-is b e = sym (pushed-spliced k came ∙ rw (← place-is, replaces-is, e) refl)
 
   replaced : replaces words row ≡ true → Took words (replacing words row (wordAt words 512) (placeOf words row)) k
+  unfolding frameIn
   replaced e =
       let below : p < n = ltb-true p n (and-both (ltb p n) (eq (floatAt words (8 * p)) (floatAt row 0)) e .0) in
       let all : p + suc (n - suc p) ≡ n = omega arith in
-      let s = firsts-spliced (frameIn words) (frameIn (replacing words row n p)) n p (suc p) k low below (replaced-front words row long n p few below) (replaced-here words row long n p few below ∙ is) (replaced-back words row long n p few below) in
+      let s = firsts-spliced (frameIn words) (frameIn (replacing words row n p)) n p (suc p) k low below (λ i h. ap frameFrom (replaced-front words row long n p few below i h)) (ap frameFrom (replaced-here words row long n p few below) ∙ is) (λ j h. ap frameFrom (replaced-back words row long n p few below j h)) in
       record {
         n = n;
         more = omega arith;
@@ -92,9 +93,10 @@ module _ (words row : List ℕ) (long : length words ≡ 518) (few : wordAt word
       }
 
   inserted : replaces words row ≡ false → wordAt words 512 < 64 → Took words (inserting words row (wordAt words 512) (placeOf words row)) k
+  unfolding frameIn
   inserted e room =
       let all : p + suc (n - p) ≡ n + 1 = omega (arith, low) in
-      let s = firsts-spliced (frameIn words) (frameIn (inserting words row n p)) n p p k low low (inserted-front words row long n p room low) (inserted-here words row long n p room low ∙ is) (inserted-back words row long n p room low) in
+      let s = firsts-spliced (frameIn words) (frameIn (inserting words row n p)) n p p k low low (λ i h. ap frameFrom (inserted-front words row long n p room low i h)) (ap frameFrom (inserted-here words row long n p room low) ∙ is) (λ j h. ap frameFrom (inserted-back words row long n p room low j h)) in
       record {
         n = n + 1;
         more = omega arith;

@@ -2,7 +2,7 @@
 use Prim.Native.Nat.{ℕ, suc, _+_, _-_, _<_, _≤_}
 use native.Mathlib.Nat.{eq-or-lt-of-le}
 use native.Mathlib.Omega.{arith}
-use mathlib.Core.Path.{_≡_, refl, sym, ap, _∙_}
+use mathlib.Core.Path.{_≡_, refl, sym, ap, subst, _∙_}
 use mathlib.Core.Bool.{Bool, true, false, cond, _&&_}
 use mathlib.Core.List.{List, [], _∷_, _++_}
 use mathlib.Core.Logic.{⊎-elim}
@@ -47,6 +47,19 @@ module _ (k : Keyframe) where
           here true = refl
           here false = refl
 
+-- the places before p, p, and m behind it
+pub by-place : (C : ℕ → Type 0) (p m : ℕ) → ((i : ℕ) → i < p → C i) → C p → ((j : ℕ) → j < m → C (p + suc j)) → (i : ℕ) → i < p + suc m → C i
+by-place C p m front here back i h = go (ltb i p) refl
+  where
+    go : (b : Bool) → ltb i p ≡ b → C i
+    go true e = front i (ltb-true i p e)
+    go false e =
+        ⊎-elim (λ (s : p ≡ i). subst C s here)
+        (λ (l : p < i).
+        let s : p + suc (i - p - 1) ≡ i = omega (arith, l) in
+        subst C s (back (i - p - 1) (omega (arith, l, h))))
+        (eq-or-lt-of-le {n = p} {m = i} (ltb-false i p e))
+
 -- a sequence that has the frames of another in their order, and k at p
 module _ (f g : ℕ → Keyframe) (n p q : ℕ) (k : Keyframe) (low : p ≤ n) (high : q ≤ n) where
   front-long : length (take p (firsts f n)) ≡ p
@@ -69,18 +82,8 @@ module _ (f g : ℕ → Keyframe) (n p q : ℕ) (k : Keyframe) (low : p ≤ n) (
     pub firsts-spliced : firsts g (p + suc (n - q)) ≡ spliced (firsts f n) p k q
     firsts-spliced = ext-getD noFrame (firsts g (p + suc (n - q))) (spliced (firsts f n) p k q) (length-firsts g (p + suc (n - q)) ∙ sym splice-long) (λ i h. each i (omega (arith, h, length-firsts g (p + suc (n - q)))))
       where
-        behind : (i : ℕ) → p < i → i < p + suc (n - q) → g i ≡ getD (spliced (firsts f n) p k q) i noFrame
-        behind i l h =
-            let e : i ≡ p + suc (i - p - 1) = omega arith in
-            let b : q + (i - p - 1) < n = omega arith in
-            rw e (back (i - p - 1) b ∙ sym (splice-back (i - p - 1) b))
-
-        at : (i : ℕ) (b : Bool) → ltb i p ≡ b → i < p + suc (n - q) → g i ≡ getD (spliced (firsts f n) p k q) i noFrame
-        at i true e h = front i (ltb-true i p e) ∙ sym (splice-front i (ltb-true i p e))
-        at i false e h =
-            ⊎-elim (λ (s : p ≡ i). rw (← s) (here ∙ sym (getD-at (take p (firsts f n)) k (drop q (firsts f n)) noFrame p front-long)))
-            (λ (l : p < i). behind i l h)
-            (eq-or-lt-of-le {n = p} {m = i} (ltb-false i p e))
-
         each : (i : ℕ) → i < p + suc (n - q) → getD (firsts g (p + suc (n - q))) i noFrame ≡ getD (spliced (firsts f n) p k q) i noFrame
-        each i h = firsts-at g (p + suc (n - q)) i noFrame h ∙ at i (ltb i p) refl h
+        each i h =
+            firsts-at g (p + suc (n - q)) i noFrame h
+            ∙ by-place (λ (i : ℕ). g i ≡ getD (spliced (firsts f n) p k q) i noFrame) p (n - q) (λ i l. front i l ∙ sym (splice-front i l)) (here ∙ sym (getD-at (take p (firsts f n)) k (drop q (firsts f n)) noFrame p front-long))
+            (λ j l. back j (omega (arith, l)) ∙ sym (splice-back j (omega (arith, l)))) i h
