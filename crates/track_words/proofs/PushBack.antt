@@ -29,22 +29,27 @@ use Rattle.track_words.specs.Pushing.{hasRoom, placeOf, pushInto, replac
 use Rattle.track_words.specs.Reading.{frameIn, framesOf, trackOf}
 use Rattle.track_words.specs.Promises.{Pushable, PushBack, PushFrames}
 use Rattle.track_words.proofs.Checked.{passed-few}
-use Rattle.track_words.proofs.Entered.{Headed, replacing, inserting, replaced-front, replaced-here, replaced-back, replaced-head, inserted-front, inserted-here, inserted-back, inserted-head}
+use Rattle.track_words.proofs.Entered.{Headed, wordsIn, replacing, inserting, replaced-front, replaced-here, replaced-back, replaced-head, inserted-front, inserted-here, inserted-back, inserted-head}
 use Rattle.track_words.proofs.Placed.{length-firsts, firsts-at, take-firsts, map-firsts}
-use Rattle.track_words.proofs.Spliced.{hasTime, spliced, pushed-spliced, firsts-spliced}
+use Rattle.track_words.proofs.Spliced.{hasTime, spliced, by-place, pushed-spliced, firsts-spliced}
 
 leading-most : (q : Keyframe → Bool) (l : List Keyframe) → leading q l ≤ length l
 unfolding leading
 leading-most q [] = omega arith
 leading-most q (f ∷ fs) = by-test (λ (m : ℕ). m ≤ suc (length fs)) (q f) (suc (leading q fs)) 0 (λ _. omega (arith, leading-most q fs)) (λ _. omega arith)
 
--- w has the frames of the words that came with k pushed among them, and their head
-record Took (words w : List ℕ) (k : Keyframe) : Type 0 where
-  n : ℕ
-  more : wordAt words 512 ≤ n
-  most : n ≤ 64
-  head : Headed words w n
-  frames : firsts (frameIn w) n ≡ pushedOf k (firsts (frameIn words) (wordAt words 512))
+-- the kind of the frame at place i is known
+abbrev pub KnownAt : List ℕ → ℕ → Type 0
+KnownAt words i = isKind (wordsIn words i .easing .kind) ≡ true
+
+-- w has the frames of the words that came with k, which the row stands for, pushed among them, and their head
+pub record Took (words row w : List ℕ) (k : Keyframe) : Type 0 where
+  pub n : ℕ
+  pub more : wordAt words 512 ≤ n
+  pub most : n ≤ 64
+  pub head : Headed words w n
+  pub frames : firsts (frameIn w) n ≡ pushedOf k (firsts (frameIn words) (wordAt words 512))
+  pub kinds : ((i : ℕ) → i < wordAt words 512 → KnownAt words i) → KnownAt row 0 → (i : ℕ) → i < n → KnownAt w i
 
 module _ (words row : List ℕ) (long : length words ≡ 518) (few : wordAt words 512 ≤ 64) (k : Keyframe) (is : frameIn row 0 ≡ k) where
   abbrev n : ℕ
@@ -78,7 +83,7 @@ module _ (words row : List ℕ) (long : length words ≡ 518) (few : wordAt word
   pushed-is : (b : Bool) → replaces words row ≡ b → spliced (firsts (frameIn words) (wordAt words 512)) (placeOf words row) k (cond b (suc (placeOf words row)) (placeOf words row)) ≡ pushedOf k (firsts (frameIn words) (wordAt words 512))
   pushed-is b e = sym (pushed-spliced k came ∙ rw (← place-is, replaces-is, e) refl)
 
-  replaced : replaces words row ≡ true → Took words (replacing words row (wordAt words 512) (placeOf words row)) k
+  replaced : replaces words row ≡ true → Took words row (replacing words row (wordAt words 512) (placeOf words row)) k
   unfolding frameIn
   replaced e =
       let below : p < n = ltb-true p n (and-both (ltb p n) (eq (floatAt words (8 * p)) (floatAt row 0)) e .0) in
@@ -90,9 +95,13 @@ module _ (words row : List ℕ) (long : length words ≡ 518) (few : wordAt word
         most = few;
         head = replaced-head words row long n p few below;
         frames = (rw all at s) ∙ pushed-is true e;
+        kinds =
+            λ known new i h.
+            by-place (KnownAt (replacing words row n p)) p (n - suc p) (λ i l. rw (replaced-front words row long n p few below i l) (known i (omega (arith, l)))) (rw (replaced-here words row long n p few below) new)
+            (λ j l. rw (replaced-back words row long n p few below j (omega (arith, l))) (known (suc p + j) (omega (arith, l)))) i (omega (arith, h));
       }
 
-  inserted : replaces words row ≡ false → wordAt words 512 < 64 → Took words (inserting words row (wordAt words 512) (placeOf words row)) k
+  inserted : replaces words row ≡ false → wordAt words 512 < 64 → Took words row (inserting words row (wordAt words 512) (placeOf words row)) k
   unfolding frameIn
   inserted e room =
       let all : p + suc (n - p) ≡ n + 1 = omega (arith, low) in
@@ -103,12 +112,16 @@ module _ (words row : List ℕ) (long : length words ≡ 518) (few : wordAt word
         most = omega arith;
         head = inserted-head words row long n p room low;
         frames = (rw all at s) ∙ pushed-is false e;
+        kinds =
+            λ known new i h.
+            by-place (KnownAt (inserting words row n p)) p (n - p) (λ i l. rw (inserted-front words row long n p room low i l) (known i (omega (arith, l, low)))) (rw (inserted-here words row long n p room low) new)
+            (λ j l. rw (inserted-back words row long n p room low j (omega (arith, l))) (known (p + j) (omega (arith, l)))) i (omega (arith, h));
       }
 
-  took : hasRoom words row ≡ true → Took words (pushInto words row) k
+  took : hasRoom words row ≡ true → Took words row (pushInto words row) k
   unfolding pushInto
   took room =
-      by-test (λ (w : List ℕ). Took words w k) (replaces words row) (replacing words row n p) (inserting words row n p) replaced
+      by-test (λ (w : List ℕ). Took words row w k) (replaces words row) (replacing words row n p) (inserting words row n p) replaced
       (λ e. inserted e (ltb-true n 64 (rw e at room)))
 
 -- the places of a track: its frames, then blanks
@@ -128,7 +141,7 @@ frames-are words h =
     let n = wordAt words 512 in
     rw (count-is words, places-are words h) (take-at (firsts (frameIn words) n) (drop n blanks) n (length-firsts (frameIn words) n))
 
-module _ (words w : List ℕ) (few : wordAt words 512 ≤ 64) (k : Keyframe) (took : Took words w k) where
+module _ (words row w : List ℕ) (few : wordAt words 512 ≤ 64) (k : Keyframe) (took : Took words row w k) where
   fits : wordAt w 512 ≤ 64
   fits = omega (arith, took .head .count, took .most)
 
@@ -166,11 +179,11 @@ stored-is row k known = go (isKind (wordAt row 2)) known
         rw (← s, of-picked f32 (eq (floatAt row 0) zeroF) 0 (wordAt row 0) _ _ refl refl) refl
     go false e = let z : _≡_ {A = ℕ} 0 1 = cc in absurd (omega (arith, z))
 
-taken : (words row : List ℕ) (k : Keyframe) → Pushable words row k → hasRoom words (storedRow row) ≡ true → Took words (pushInto words (storedRow row)) (storedOf k)
+pub taken : (words row : List ℕ) (k : Keyframe) → Pushable words row k → hasRoom words (storedRow row) ≡ true → Took words (storedRow row) (pushInto words (storedRow row)) (storedOf k)
 taken words row k from room = took words (storedRow row) (from .long) (passed-few words (from .fine)) (storedOf k) (stored-is row k (from .known)) room
 
 pub push-frames : PushFrames
-push-frames words row k from room = frames-taken words (pushInto words (storedRow row)) (passed-few words (from .fine)) (storedOf k) (taken words row k from room)
+push-frames words row k from room = frames-taken words (storedRow row) (pushInto words (storedRow row)) (passed-few words (from .fine)) (storedOf k) (taken words row k from room)
 
 pub push-back : PushBack
 unfolding putOf
@@ -178,4 +191,4 @@ push-back words row k from room =
     let few = passed-few words (from .fine) in
     let t = taken words row k from room in
     let w = pushInto words (storedRow row) in
-    rw (long-is words w few (storedOf k) t, le-leb (t .n) 64 (t .most)) (track-taken words w few (storedOf k) t ∙ rw (long-is words w few (storedOf k) t) refl)
+    rw (long-is words (storedRow row) w few (storedOf k) t, le-leb (t .n) 64 (t .most)) (track-taken words (storedRow row) w few (storedOf k) t ∙ rw (long-is words (storedRow row) w few (storedOf k) t) refl)
