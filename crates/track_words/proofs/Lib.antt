@@ -5,6 +5,7 @@ pub mod Moved
 pub mod Placed
 pub mod PushBack
 pub mod PushDone
+pub mod PushPasses
 pub mod Pushes
 pub mod Rows
 pub mod Sound

@@ -41,3 +41,9 @@ abbrev pub PushDone : Type 0
 PushDone =
     (words row : List ℕ) (k : Keyframe) → Pushable words row k → pushOf (trackOf words) k .outcome ≡ Done
     → trackOf (pushInto words (storedRow row)) ≡ pushOf (trackOf words) k .track
+
+-- and they pass the check again
+abbrev pub PushPasses : Type 0
+PushPasses =
+    (words row : List ℕ) (k : Keyframe) → Pushable words row k → pushOf (trackOf words) k .outcome ≡ Done
+    → checkOf (pushInto words (storedRow row)) ≡ 0
