@@ -4,11 +4,11 @@ use native.Mathlib.Omega.{arith}
 use mathlib.Core.Path.{_≡_, refl, sym, ap, _∙_}
 use mathlib.Core.Bool.{Bool, true, false, cond, _&&_}
 use mathlib.Core.List.{List, [], _∷_, _++_}
-use lib.Dec.{leb, ltb}
-use lib.ListN.{length, take, drop, getD}
+use lib.Dec.{ltb}
+use lib.ListN.{length, drop, getD}
 use lib.Seq.{drop-at, drop-drop, take-at}
-use lib.Ieee.{Float, eq, lt}
-use borrow.Author.Tests.{le-leb, ltb-true, ltb-false}
+use lib.Ieee.{eq, lt}
+use borrow.Author.Tests.{le-leb, ltb-true}
 use Rattle.math.specs.Lists.{firsts}
 use Rattle.math.specs.Rounded.{f32, zeroF}
 use Rattle.math.proofs.Choice.{and-both, by-test, of-picked}
@@ -22,7 +22,7 @@ use Rattle.keyframe.specs.Pushing.{storedOf, withFrames}
 use Rattle.words.specs.declared.tracks.FrameRead.the-variants as frame
 use Rattle.words.specs.declared.tracks.LaxKeyframe.{LaxKeyframe}
 use Rattle.words.specs.Kinds.{isKind}
-use Rattle.words.specs.Lent.{wordAt, floatAt, easingAt, frameAt, trackIn}
+use Rattle.words.specs.Lent.{wordAt, floatAt, frameAt, trackIn}
 use Rattle.words.specs.Tracks.{blanks, frameFrom, frameRead, framesFrom, trackFrom}
 use Rattle.words.proofs.Known.{all-places}
 use Rattle.track_words.specs.Pushing.{hasRoom, placeOf, pushInto, replaces, storedRow}

@@ -1,5 +1,5 @@
 -- The words that a push leaves pass the check again. Assumes nothing.
-use Prim.Native.Nat.{ℕ, zero, suc, _*_, _<_, _≤_}
+use Prim.Native.Nat.{ℕ, zero, suc, _<_, _≤_}
 use native.Mathlib.Nat.{eq-or-lt-of-le}
 use native.Mathlib.Omega.{arith}
 use mathlib.Core.Path.{_≡_, refl, sym, _∙_}
@@ -21,7 +21,7 @@ use Rattle.words.proofs.Known.{all-places}
 use Rattle.track_words.specs.Checking.{checkOf}
 use Rattle.track_words.specs.Pushing.{pushInto, storedRow}
 use Rattle.track_words.specs.Reading.{trackOf}
-use Rattle.track_words.specs.Promises.{Pushable, PushPasses}
+use Rattle.track_words.specs.Promises.{PushPasses}
 use Rattle.track_words.proofs.Checked.{passed-few, passed-known, passed-within}
 use Rattle.track_words.proofs.Entered.{wordsIn}
 use Rattle.track_words.proofs.Placed.{take-firsts}
