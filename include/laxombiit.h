@@ -343,7 +343,8 @@ uint32_t lax_easing_named(uint32_t place, lax_easing *out);
 
 /* Tweens. Each call but the first refuses 4 where the tween breaks a limit. */
 
-/* One second, linear, no delay, scale 1, once; running from its start. Nothing is checked: it returns 0. */
+/* One second, linear, no delay, scale 1, once; running from its start. Nothing is checked: it returns 0. A
+ * start or an end that is NaN is written as the NaN 0x7fc00000. */
 uint32_t lax_tween_new(lax_tween *t, float start, float end);
 
 uint32_t lax_tween_value(const lax_tween *t, lax_found *out);

@@ -237,7 +237,9 @@ pub fn new_tween(start: f32, end: f32) -> LaxTween {
 
 pub fn check_new_tween(start: f32, end: f32) -> Result<LaxTween, Difference> {
     let ours = tween_new(start, end);
-    same_bits(NEW_TWEEN, &ours, &new_tween(start, end))?;
+    // a NaN that is given as a float is written as 0x7fc00000
+    let written = |x: f32| if x.is_nan() { f32::from_bits(0x7fc0_0000) } else { x };
+    same_bits(NEW_TWEEN, &ours, &new_tween(written(start), written(end)))?;
     Ok(ours)
 }
 
