@@ -48,7 +48,12 @@ fn tweens() -> Vec<Call> {
         let mut out = FoundPlace::default();
         Box::new(move || lax_tween_value(black_box(&tween), &mut out))
     };
+    let (easing, mut named, mut snapshot) = (running.easing, LaxEasing::default(), SnapshotPlace::default());
+    let mut found = FoundPlace::default();
     vec![
+        ("easing apply, Linear", Box::new(move || lax_easing_apply(black_box(&easing), 0.25, &mut found))),
+        ("easing named", Box::new(move || lax_easing_named(black_box(37), &mut named))),
+        ("tween snapshot", Box::new(move || lax_tween_snapshot(black_box(&running), &mut snapshot))),
         ("tween update, no fold", update(running, 0.25)),
         ("tween update, 100 folds", update(running, 100.25)),
         ("tween update, refused", update(broken, 0.25)),
@@ -90,6 +95,8 @@ fn tracks() -> Vec<Call> {
     let push = |mut track: LaxTrack| -> Box<dyn FnMut() -> u32> {
         Box::new(move || lax_track_push(black_box(&mut track), 3.25, 1.0))
     };
+    let (mut sought, mut looped, mode) = (track, track, LaxLoop { mode: FOREVER, passes: 0 });
+    let mut found = FoundPlace::default();
     let (times, mut values) = (inputs::below(60.0, 1_000), vec![0.0; 1_000]);
     let mut filled = CountedPlace { count: 0, unsettled: 0 };
     vec![
@@ -100,6 +107,9 @@ fn tracks() -> Vec<Call> {
         ("track update, refused", update(broken)),
         ("push into 63 frames", push(track)),
         ("push, refused", push(broken)),
+        ("track seek_to", Box::new(move || lax_track_seek_to(black_box(&mut sought), 0.5))),
+        ("track looping", Box::new(move || lax_track_looping(black_box(&mut looped), &mode))),
+        ("track value", Box::new(move || lax_track_value(black_box(&track), &mut found))),
         (
             "batch of 1000, 63 frames",
             Box::new(move || track_values_at(&track, &times, &mut values, &mut filled)),

@@ -65,4 +65,5 @@ laxReplayOn ws records gaps reached =
     let came : Replaying = record { words = ws; gaps = gaps; reached = reached } in
     onTween ws came (λ t.
     onLast (lastFrom (wordAt reached 2)) came (λ l.
-    replayedIn (withinOf t) came (readOnOf (record { tween = t; last = l; missing = wordAt reached 0; folds = wordAt reached 1 }) records gaps)))
+    let begun : Replay = record { tween = t; last = l; missing = wordAt reached 0; folds = wordAt reached 1 } in
+    replayedIn (withinOf t) came (readOnOf begun records gaps)))

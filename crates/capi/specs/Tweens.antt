@@ -58,7 +58,8 @@ laxTweenEasedProgress ws out = onTween ws out (λ t. foundIn out (easedProgressO
 -- five words: elapsed, delay_elapsed, state, loop_count, ping_pong_reverse
 unfoldable pub snapshotIn : List ℕ → Snapped → Answer (List ℕ)
 snapshotIn out (snapped.Snapshot s) =
-    accepted (bitsOf (s .elapsed) ∷ bitsOf (s .«delay_elapsed») ∷ stateWord (s .state) ∷ s .«loop_count» ∷ flagWord (s .«ping_pong_reverse») ∷ [])
+    accepted
+    (bitsOf (s .elapsed) ∷ bitsOf (s .«delay_elapsed») ∷ stateWord (s .state) ∷ s .«loop_count» ∷ flagWord (s .«ping_pong_reverse») ∷ [])
 snapshotIn out (snapped.Refused r) = refused out r
 
 unfoldable pub laxTweenSnapshot : List ℕ → List ℕ → Answer (List ℕ)

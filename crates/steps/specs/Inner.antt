@@ -16,10 +16,13 @@ Written {A} front i l was = (length front ≡ i) × (l ≡ front ++ drop i was)
 
 -- values, folds and a count that come before those of a course
 abbrev pub behind : List Float → List ℕ → ℕ → Course → Course
-behind vs fs n c = record { tween = c .tween; values = vs ++ c .values; folds = fs ++ c .folds; unsettled = n + c .unsettled; outcome = c .outcome }
+behind vs fs n c =
+    record { tween = c .tween; values = vs ++ c .values; folds = fs ++ c .folds; unsettled = n + c .unsettled; outcome = c .outcome }
 
 -- a run of these steps from t₀ over these lists has taken i of them: it stands at t, with n values that are not settled, and its course is what was written and the course from here
-pub record Reached (steps values₀ : List Float) (folds₀ : List ℕ) (t₀ : Tween) (values : List Float) (folds : List ℕ) (t : Tween) (n i : ℕ) : Type 0 where
+pub record Reached
+    (steps values₀ : List Float) (folds₀ : List ℕ) (t₀ : Tween)
+    (values : List Float) (folds : List ℕ) (t : Tween) (n i : ℕ) : Type 0 where
   pub front : List Float
   pub counts : List ℕ
   pub values-are : Written front i values values₀
@@ -35,4 +38,6 @@ pub record Reached (steps values₀ : List Float) (folds₀ : List ℕ) (t₀ : 
 abbrev pub ReachesOn : List Float → List Float → List ℕ → Tween → ℕ → ℕ → List Float → List ℕ → Stretch → Type 0
 ReachesOn steps values folds t n i values₁ folds₁ r =
     (i ≤ r .next)
-    × ((values₀ : List Float) (folds₀ : List ℕ) (t₀ : Tween) → Reached steps values₀ folds₀ t₀ values folds t n i → Reached steps values₀ folds₀ t₀ values₁ folds₁ (r .tween) (r .unsettled) (r .next))
+    × ((values₀ : List Float) (folds₀ : List ℕ) (t₀ : Tween)
+    → Reached steps values₀ folds₀ t₀ values folds t n i
+    → Reached steps values₀ folds₀ t₀ values₁ folds₁ (r .tween) (r .unsettled) (r .next))

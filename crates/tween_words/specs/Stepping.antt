@@ -30,7 +30,8 @@ turnFrom p = record { count = p .«loop_count»; flag = flagWord (p .«ping_pong
 unfoldable pub turnOf : Loop → ℕ → ℕ → Turn
 turnOf l count flag =
     turnFrom
-    (foldOnce l zeroF (record { elapsed = zeroF; «loop_count» = count; «ping_pong_reverse» = not (eqb flag 0); completed = false; folds = 0 }))
+    (foldOnce l zeroF
+    (record { elapsed = zeroF; «loop_count» = count; «ping_pong_reverse» = not (eqb flag 0); completed = false; folds = 0 }))
 
 -- the tween that is read runs on, with these folds, and then has these words
 pub record Steps (ws : List ℕ) (x : Float) (folds : ℕ) (running : Bool) (after : List ℕ) : Type 0 where

@@ -7,7 +7,7 @@ use easing::Params;
 
 // CubicBezier: x1, y1, x2, y2 in a to d. Steps and Wiggle: count. RoughEase: strength in a, points in count.
 // SlowMo: linear_ratio in a, power in b. CustomBounce: strength in a. ExpoScale: start in a, end in b.
-// Words that a kind has no use for are not looked at, and come back as 0.
+// Words that a kind has no use for are not looked at, and are written as 0.
 #[repr(C)]
 pub struct LaxEasing {
     pub kind: u32,

@@ -5,7 +5,7 @@ use loop_mode::Loop;
 use tween::TweenState;
 
 // mode: 0 Once, 1 Times, 2 Forever, 3 PingPong, 4 PingPongTimes. passes is looked at in 1 and 4, and
-// comes back as 0 in the others.
+// is written as 0 in the others.
 #[repr(C)]
 pub struct LaxLoop {
     pub mode: u32,
@@ -72,7 +72,7 @@ pub fn state_word(s: TweenState) -> u32
     }
 }
 
-// 0 is false; a word that is not 0 is true, and comes back as 1.
+// 0 is false, and every other word is true; true is written as 1.
 pub fn flag_word(b: bool) -> u32
     ensures { λ r. ⌜ r ≡ flagWord b ⌝ }
 {
