@@ -8,6 +8,7 @@ pub mod Equals
 mod Examples
 pub mod Fitting
 mod Form
+mod Least
 pub mod Lists
 pub mod Numbers
 pub mod Order

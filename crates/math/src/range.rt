@@ -1,6 +1,7 @@
 // Keeping a float in a range.
 ghost use mathlib.Core.Path.{_≡_};
 ghost use Rattle.math.specs.Range.{clampOf, clamp01Of, maxZeroOf, sizeOf, isValue, isBetween};
+use crate::pattern::of_bits;
 
 // 2^-23, Rust's f32::EPSILON.
 pub const EPSILON: f32 = 0.00000011920928955078125;
@@ -25,11 +26,12 @@ pub fn clamp01(x: f32) -> f32
     clamp(x, 0.0, 1.0)
 }
 
-// The larger of x and 0: +0 for either zero, and for a NaN.
+// The larger of x and 0: +0 for either zero, and for a NaN. By the least float above 0, 2^-149: a test
+// against 0 itself becomes a maximum of the processor, and on Arm that keeps a signalling NaN.
 pub fn max_zero(x: f32) -> f32
     ensures { λ r. ⌜ r ≡ maxZeroOf x ⌝ }
 {
-    if x > 0.0 { x } else { 0.0 }
+    if of_bits(1) <= x { x } else { 0.0 }
 }
 
 // The size of x without its sign, Rust's f32::abs.
