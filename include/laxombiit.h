@@ -24,8 +24,16 @@
 #include <stddef.h>
 #include <stdint.h>
 
-#if !defined(__x86_64__) || !defined(__linux__) || defined(__ILP32__)
-#error "Laxombiit has an archive for 64-bit Linux on x86-64 alone, and this is another processor or system"
+/* `make lib TARGET=..` makes an archive for: x86_64-linux-gnu, aarch64-linux-gnu, arm-linux-gnueabihf (ARMv7,
+ * hard float), riscv64-linux-gnu (lp64d), thumbv7em-none-eabihf (Cortex-M4F), wasm32. */
+#if defined(__linux__) && defined(__x86_64__) && !defined(__ILP32__)
+#elif defined(__linux__) && defined(__aarch64__) && !defined(__ILP32__) && !defined(__AARCH64EB__)
+#elif defined(__linux__) && defined(__arm__) && defined(__ARM_PCS_VFP) && __ARM_ARCH >= 7 && !defined(__ARMEB__)
+#elif defined(__linux__) && defined(__riscv_float_abi_double) && __riscv_xlen == 64
+#elif defined(__ARM_ARCH_7EM__) && defined(__ARM_PCS_VFP) && !defined(__ARMEB__)
+#elif defined(__wasm32__)
+#else
+#error "Laxombiit has no archive for this processor or system; include/laxombiit.h says for which it has one"
 #endif
 
 #ifdef __cplusplus

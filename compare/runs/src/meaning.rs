@@ -11,6 +11,12 @@ pub fn name(meant: &impl Debug) -> String {
     shown.split(|c: char| !c.is_alphanumeric()).next().unwrap_or_default().to_string()
 }
 
+/// Seconds as the Rust is handed them. Its `max` drops every NaN; built for Arm it keeps a signalling one, made quiet,
+/// so there it is handed the quiet one (docs/DIFFERENCES.md).
+pub fn secs(x: f32) -> f32 {
+    if x.is_nan() && !cfg!(target_arch = "x86_64") { f32::NAN } else { x }
+}
+
 /// A kind's number is its place among the named ones.
 pub fn easing(w: &LaxEasing) -> Easing {
     let named = &Easing::all_named()[w.kind as usize];

@@ -169,7 +169,7 @@ impl TrackCall {
             return LaxTrackUpdated { number, running: 0, track: *t };
         }
         let mut track = meaning::track(t);
-        let running = track.update(step).into();
+        let running = track.update(meaning::secs(step)).into();
         LaxTrackUpdated { number, running, track: meaning::track_words(&track, t) }
     }
 
@@ -215,7 +215,7 @@ impl TrackCall {
         }
         let track = meaning::track(t);
         let value = match self {
-            ValueAt(secs) => track.value_at(*secs).expect("there are frames"),
+            ValueAt(secs) => track.value_at(meaning::secs(*secs)).expect("there are frames"),
             Value => track.value().expect("there are frames"),
             ActiveTime => track.time_in_pass(),
             Duration => track.duration(),
@@ -255,7 +255,8 @@ pub fn sampled(t: &LaxTrack, times: &[f32], out: &mut [f32]) -> LaxFilled {
     let mut unsettled = 0;
     if number == 0 {
         let track = meaning::track(t);
-        let sampled = times.iter().map(|secs| track.value_at(*secs).expect("there are frames"));
+        let sampled =
+            times.iter().map(|secs| track.value_at(meaning::secs(*secs)).expect("there are frames"));
         out.iter_mut().zip(sampled).for_each(|(place, value)| *place = value);
         unsettled = times.iter().filter(|secs| !search::of_track(t, **secs).settled).count();
     }

@@ -195,7 +195,7 @@ pub fn updated(t: &LaxTween, step: f32) -> LaxUpdated {
 fn stepped(t: &LaxTween, step: f32) -> LaxUpdated {
     let mut tween = meaning::tween(t);
     let was_complete = tween.is_complete();
-    let running = tween.update(step).into();
+    let running = tween.update(meaning::secs(step)).into();
     let mut words = meaning::tween_words(&tween);
     // at duration 0 the Rust keeps what was added
     if t.duration == 0.0 && tween.is_complete() && !was_complete {
