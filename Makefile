@@ -16,9 +16,9 @@ test:
 programs:
 	@bash scripts/programs
 
-# The C interface as an archive.
+# The C interface as an archive, for this machine or for TARGET=..
 lib:
-	@bash scripts/lib
+	@bash scripts/lib $(TARGET)
 
 # The plots of the manual, from the library's answers.
 curves: lib

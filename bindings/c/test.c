@@ -64,6 +64,7 @@ int main(void)
     test_logs();
     test_replays();
     test_refusals();
+    test_nans();
     printf("C interface: %d hold, %d fail\n", held, failed);
     return failed != 0;
 }

@@ -30,5 +30,6 @@ void test_tracks(void);
 void test_logs(void);
 void test_replays(void);
 void test_refusals(void);
+void test_nans(void);
 
 #endif
