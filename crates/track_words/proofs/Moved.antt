@@ -51,7 +51,7 @@ module _ (words : List ℕ) (high : ℕ) where
       let f : suc (high - suc n) + 8 ≡ suc (high - suc n + 8) = suc-add i 8 in
       rw (raised-is n (omega arith), e, f) (one-up i (omega arith))
 
-  pub raised-over : (low : ℕ) → low ≤ high → raisedBy words high (high - low) ≡ over words (low + 8) (drop low (take high words))
+  raised-over : (low : ℕ) → low ≤ high → raisedBy words high (high - low) ≡ over words (low + 8) (drop low (take high words))
   raised-over low h =
       let e : high - (high - low) ≡ low = omega arith in
       rw e at (raised-is (high - low) (omega arith))

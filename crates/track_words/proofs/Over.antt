@@ -1,4 +1,4 @@
--- New words over old ones: word by word, place by place, and put together. Assumes nothing.
+-- New words over others: how they are read place by place, and written one by one. Assumes nothing.
 use Prim.Native.Nat.{ℕ, zero, suc, _+_, _<_, _≤_}
 use native.Mathlib.Nat.{suc-add, zero-add}
 use native.Mathlib.Omega.{arith}
@@ -9,6 +9,7 @@ use lib.Seq.{take-length}
 use Rattle.words.specs.Lent.{wordAt}
 use Rattle.track_words.specs.Pushing.{over}
 
+-- word by word
 over-nil : (at : ℕ) (new : List ℕ) → over [] at new ≡ []
 unfolding over
 over-nil at new = refl

@@ -30,7 +30,7 @@ replaces words row = ltb (placeOf words row) (wordAt words 512) && eq (floatAt w
 abbrev pub hasRoom : List ℕ → List ℕ → Bool
 hasRoom words row = replaces words row || ltb (wordAt words 512) 64
 
--- new words in the places from `at` on; a list keeps its length
+-- new words in the places from `at` on, and the others as they came; a list keeps its length
 unfoldable pub over : List ℕ → ℕ → List ℕ → List ℕ
 over words at new = take (length words) (take at words ++ new ++ drop (at + length new) words)
 
@@ -38,7 +38,7 @@ over words at new = take (length words) (take at words ++ new ++ drop (at + leng
 abbrev pub countInto : List ℕ → ℕ → List ℕ
 countInto words n = set (set words 512 n) 517 0
 
--- the row in its place, and behind it, unless it replaces one, the frames that stood from there on
+-- the row over the frame that it replaces; else the row, and behind it the frames that stood from its place on
 unfoldable pub pushInto : List ℕ → List ℕ → List ℕ
 pushInto words row =
     let n = wordAt words 512 in
