@@ -2,6 +2,7 @@
 pub mod Checked
 pub mod Entered
 pub mod Moved
+pub mod Over
 pub mod Placed
 pub mod PushBack
 pub mod PushDone

@@ -1,64 +1,64 @@
--- The words of a push, place by place: those of the row, those that go up, and those that stay. Assumes nothing.
+-- The words of a push: what its loops write, as words over others, and the count. Assumes nothing.
 use Prim.Native.Nat.{ℕ, zero, suc, _+_, _-_, _<_, _≤_}
-use native.Mathlib.Nat.{add-assoc, add-zero, eq-or-lt-of-le}
+use native.Mathlib.Nat.{add-assoc, add-zero, sub-zero, suc-add}
 use native.Mathlib.Omega.{arith}
-use mathlib.Core.Path.{_≡_, refl, _∙_}
-use mathlib.Core.List.{List}
-use mathlib.Core.Logic.{⊎-elim}
-use lib.ListN.{length, length-set, set}
-use lib.Seq.{getD-set-same, getD-set-other}
+use mathlib.Core.Path.{_≡_, refl, sym, _∙_}
+use mathlib.Core.Bool.{Bool, true, false}
+use mathlib.Core.List.{List, _∷_, _++_}
+use lib.Dec.{ltb}
+use lib.ListN.{length, length-set, length-take, take, drop, set}
+use lib.Seq.{drop-cons, getD-set-same, getD-set-other, getD-take, slice-empty}
+use borrow.Author.Tests.{ltb-true, ltb-false}
+use Rattle.math.specs.Lists.{firsts}
 use Rattle.words.specs.Lent.{wordAt, frameAt}
-use Rattle.track_words.specs.Pushing.{countInto, raisedBy, rowInto}
+use Rattle.track_words.specs.Inner.{raisedBy, rowInto}
+use Rattle.track_words.specs.Pushing.{countInto, over, rowOf}
+use Rattle.track_words.proofs.Over.{over-none, over-before, over-beyond, over-last, over-first, over-over}
+use Rattle.track_words.proofs.Placed.{length-firsts}
 
 -- a row in its places
 module _ (words : List ℕ) (at : ℕ) (row : List ℕ) where
-  pub row-long : (n : ℕ) → length (rowInto words at row n) ≡ length words
-  unfolding rowInto
-  row-long zero = refl
-  row-long (suc n) = length-set (rowInto words at row n) (at + n) (wordAt row n) ∙ row-long n
+  row-is : (n : ℕ) → rowInto words at row n ≡ over words at (firsts (wordAt row) n)
+  unfolding rowInto firsts
+  row-is zero = sym (over-none words at)
+  row-is (suc n) = rw (row-is n) (rw (length-firsts (wordAt row) n) at (over-last words at (firsts (wordAt row) n) (wordAt row n)))
 
-  pub row-at : (n m : ℕ) → at + n ≤ length words → m < n → wordAt (rowInto words at row n) (at + m) ≡ wordAt row m
-  unfolding rowInto
-  row-at zero m fit h = absurd (omega (arith, h))
-  row-at (suc n) m fit h =
-      ⊎-elim (λ (e : m ≡ n). rw e (getD-set-same (rowInto words at row n) (at + n) (wordAt row n) 0 (omega (arith, fit, row-long n))))
-      (λ (l : m < n). getD-set-other (rowInto words at row n) (at + n) (at + m) (wordAt row n) 0 (λ e. omega (arith, e, l)) ∙ row-at n m (omega arith) l)
-      (eq-or-lt-of-le {n = m} {m = n} (omega (arith, h)))
-
-  pub row-other : (n x : ℕ) → ((m : ℕ) → m < n → x ≡ at + m → ⊥) → wordAt (rowInto words at row n) x ≡ wordAt words x
-  unfolding rowInto
-  row-other zero x h = refl
-  row-other (suc n) x h = getD-set-other (rowInto words at row n) (at + n) x (wordAt row n) 0 (h n (omega arith)) ∙ row-other n x (λ m l. h m (omega (arith, l)))
+  pub row-over : rowInto words at row 8 ≡ over words at (rowOf row)
+  unfolding firsts
+  row-over = row-is 8
 
 -- words that go eight places up
 module _ (words : List ℕ) (high : ℕ) where
-  pub raised-long : (n : ℕ) → length (raisedBy words high n) ≡ length words
-  unfolding raisedBy
-  raised-long zero = refl
-  raised-long (suc n) = length-set (raisedBy words high n) (high - suc n + 8) (wordAt (raisedBy words high n) (high - suc n)) ∙ raised-long n
+  one-up : (i : ℕ) → i < high → let w = over words (suc (i + 8)) (drop (suc i) (take high words)) in set w (i + 8) (wordAt w i) ≡ over words (i + 8) (drop i (take high words))
+  one-up i h =
+      let new = drop (suc i) (take high words) in
+      rw (over-before words (suc (i + 8)) new i (omega arith), over-first words (i + 8) new (wordAt words i)) (go (ltb i (length words)) refl)
+    where
+      go : (b : Bool) → ltb i (length words) ≡ b → over words (i + 8) (wordAt words i ∷ drop (suc i) (take high words)) ≡ over words (i + 8) (drop i (take high words))
+      go true e =
+          let l = ltb-true i (length words) e in
+          rw (drop-cons (take high words) i 0 (omega (arith, length-take high words)), getD-take high words i 0 h) refl
+      go false e =
+          let l : length words ≤ i + 8 = omega (arith, ltb-false i (length words) e) in
+          rw (over-beyond words (i + 8) (wordAt words i ∷ drop (suc i) (take high words)) l, over-beyond words (i + 8) (drop i (take high words)) l) refl
 
-  pub raised-below : (n x : ℕ) → n ≤ high → x < high - n + 8 → wordAt (raisedBy words high n) x ≡ wordAt words x
+  raised-is : (n : ℕ) → n ≤ high → raisedBy words high n ≡ over words (high - n + 8) (drop (high - n) (take high words))
   unfolding raisedBy
-  raised-below zero x fit h = refl
-  raised-below (suc n) x fit h =
-      getD-set-other (raisedBy words high n) (high - suc n + 8) x (wordAt (raisedBy words high n) (high - suc n)) 0 (λ e. omega (arith, e)) ∙ raised-below n x (omega arith) (omega arith)
+  raised-is zero h = rw (sub-zero high, slice-empty high words) (sym (over-none words (high + 8)))
+  raised-is (suc n) h =
+      let i = high - suc n in
+      let e : high - n ≡ suc (high - suc n) = omega arith in
+      let f : suc (high - suc n) + 8 ≡ suc (high - suc n + 8) = suc-add i 8 in
+      rw (raised-is n (omega arith), e, f) (one-up i (omega arith))
 
-  pub raised-above : (n x : ℕ) → n ≤ high → high + 8 ≤ x → wordAt (raisedBy words high n) x ≡ wordAt words x
-  unfolding raisedBy
-  raised-above zero x fit h = refl
-  raised-above (suc n) x fit h =
-      getD-set-other (raisedBy words high n) (high - suc n + 8) x (wordAt (raisedBy words high n) (high - suc n)) 0 (λ e. omega (arith, e)) ∙ raised-above n x (omega arith) h
+  raised-over : (low : ℕ) → low ≤ high → raisedBy words high (high - low) ≡ over words (low + 8) (drop low (take high words))
+  raised-over low h =
+      let e : high - (high - low) ≡ low = omega arith in
+      rw e at (raised-is (high - low) (omega arith))
 
-  pub raised-at : (n y : ℕ) → n ≤ high → high + 8 ≤ length words → high - n ≤ y → y < high → wordAt (raisedBy words high n) (y + 8) ≡ wordAt words y
-  unfolding raisedBy
-  raised-at zero y fit long low h = absurd (omega (arith, low, h))
-  raised-at (suc n) y fit long low h =
-      ⊎-elim
-      (λ (e : high - suc n ≡ y).
-      rw e (getD-set-same (raisedBy words high n) (y + 8) (wordAt (raisedBy words high n) y) 0 (omega (arith, raised-long n, e, h)) ∙ raised-below n y (omega arith) (omega (arith, e))))
-      (λ (l : high - suc n < y).
-      getD-set-other (raisedBy words high n) (high - suc n + 8) (y + 8) (wordAt (raisedBy words high n) (high - suc n)) 0 (λ e. omega (arith, e, l)) ∙ raised-at n y (omega arith) long (omega (arith, l)) h)
-      (eq-or-lt-of-le {n = high - suc n} {m = y} low)
+-- a row in front of the words that go up for it
+pub insert-over : (words row : List ℕ) (low high : ℕ) → low ≤ high → rowInto (raisedBy words high (high - low)) low row 8 ≡ over words low (rowOf row ++ drop low (take high words))
+insert-over words row low high h = rw (raised-over words high low h, row-over (over words (low + 8) (drop low (take high words))) low row) (over-over words low (rowOf row) (drop low (take high words)))
 
 -- a count in its place, and complete cleared
 module _ (words : List ℕ) (n : ℕ) where

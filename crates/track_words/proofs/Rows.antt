@@ -18,7 +18,9 @@ use Rattle.frames.specs.Sampling.{leading}
 use Rattle.words.specs.Lent.{wordAt, floatAt, frameAt}
 use Rattle.words.specs.Tracks.{frameFrom}
 use Rattle.track_words.specs.Reading.{frameIn, framesOf}
-use Rattle.track_words.specs.Pushing.{countInto, hasRoom, placeOf, pushInto, raisedBy, replaces, rowInto}
+use Rattle.track_words.specs.Inner.{raisedBy, rowInto}
+use Rattle.track_words.specs.Pushing.{countInto, hasRoom, placeOf, pushInto, replaces}
+use Rattle.track_words.proofs.Moved.{row-over, insert-over}
 use Rattle.track_words.proofs.Placed.{frames-long, frame-at}
 
 module _ (words row : List ℕ) where
@@ -28,7 +30,7 @@ module _ (words row : List ℕ) where
 
     pub same-words : countInto (rowInto words (8 * placeOf words row) row 8) (wordAt words 512) ≡ pushInto words row
     unfolding pushInto
-    same-words = rw (lt-ltb (placeOf words row) (wordAt words 512) below, same) refl
+    same-words = rw (row-over words (8 * placeOf words row) row, lt-ltb (placeOf words row) (wordAt words 512) below, same) refl
 
   pub other-time : eq (floatAt words (8 * placeOf words row)) (floatAt row 0) ≡ false → replaces words row ≡ false
   other-time e = rw e (go (ltb (placeOf words row) (wordAt words 512)))
@@ -44,9 +46,10 @@ module _ (words row : List ℕ) where
     pub new-room : wordAt words 512 < 64 → true ≡ hasRoom words row
     new-room h = rw (other, lt-ltb (wordAt words 512) 64 h) refl
 
-    pub new-words : countInto (rowInto (raisedBy words (8 * wordAt words 512) (8 * wordAt words 512 - 8 * placeOf words row)) (8 * placeOf words row) row 8) (wordAt words 512 + 1) ≡ pushInto words row
+    pub new-words : placeOf words row ≤ wordAt words 512
+        → countInto (rowInto (raisedBy words (8 * wordAt words 512) (8 * wordAt words 512 - 8 * placeOf words row)) (8 * placeOf words row) row 8) (wordAt words 512 + 1) ≡ pushInto words row
     unfolding pushInto
-    new-words = rw other refl
+    new-words low = rw (insert-over words row (8 * placeOf words row) (8 * wordAt words 512) (omega (arith, low)), other) refl
 
     pub no-room : 64 ≤ wordAt words 512 → false ≡ hasRoom words row
     no-room h = rw (other, le-ltb (wordAt words 512) 64 h) refl

@@ -1,8 +1,8 @@
--- What the inner steps of a check promise.
-use Prim.Native.Nat.{ℕ}
+-- What the inner steps of a check and of a push promise.
+use Prim.Native.Nat.{ℕ, zero, suc, _+_, _-_}
 use mathlib.Core.Bool.{Bool, _&&_}
 use mathlib.Core.List.{List}
-use lib.ListN.{take}
+use lib.ListN.{take, set}
 use lib.Ieee.{Float}
 use Rattle.refusal.specs.declared.Refusal.the-variants.{RecordBreaksLimit}
 use Rattle.refusal.specs.Number.{numberOf}
@@ -25,3 +25,13 @@ headOf words base =
     unless (isMode (wordAt words 514)) unknownWord
     (unless (clockFits (floatAt words 513) (loopIn (loopFrom (loopAt words 514))) base) (numberOf RecordBreaksLimit)
     0)
+
+-- the first n words of a row in the places from `at` on
+unfoldable pub rowInto : List ℕ → ℕ → List ℕ → ℕ → List ℕ
+rowInto words at row zero = words
+rowInto words at row (suc n) = set (rowInto words at row n) (at + n) (wordAt row n)
+
+-- the n words before `high` eight places up, the last first
+unfoldable pub raisedBy : List ℕ → ℕ → ℕ → List ℕ
+raisedBy words high zero = words
+raisedBy words high (suc n) = let w = raisedBy words high n in set w (high - suc n + 8) (wordAt w (high - suc n))

@@ -1,6 +1,6 @@
 -- `put` meets its contract, by where the row goes. Assumes nothing.
 use Prim.Native.Nat.{_≤_, _<_, _*_}
-use mathlib.Core.Path.{_≡_, refl, _∙_}
+use mathlib.Core.Path.{_≡_, refl}
 use mathlib.Core.Bool.{true, false}
 use mathlib.Core.Logic.{⊎-elim}
 use native.Mathlib.Omega.{arith}
@@ -65,7 +65,7 @@ put-spec =
     let a = c .before .before .before .before .before .before .before .before .before .before .before .before .args in
     let ws = now (a .w) in
     let row = now (a .row) in
-    (new-room ws row (other j) (rw (← c .before .before .before .before .before .before .before .before .before .before .count .ensures) (c .before .before .before .before .if3 .taken)), rw (c .put-row2 .ensures, c .before .before .raise .ensures, place b, c .before .before .before .before .before .before .before .before .before .before .count .ensures) (new-words ws row (other j))))
+    (new-room ws row (other j) (rw (← c .before .before .before .before .before .before .before .before .before .before .count .ensures) (c .before .before .before .before .if3 .taken)), rw (c .put-row2 .ensures, c .before .before .raise .ensures, place b, c .before .before .before .before .before .before .before .before .before .before .count .ensures) (new-words ws row (other j) (rw (← place b, ← c .before .before .before .before .before .before .before .before .before .before .count .ensures) (b .earlier .ensures .0)))))
     (λ c.
     let j = c .before in
     let a = c .before .before .before .before .before .before .before .before .args in

@@ -4,7 +4,7 @@ use mathlib.Core.Path.{_≡_, refl}
 use native.Mathlib.Numerals.{add-one}
 use native.Mathlib.Omega.{arith}
 use borrow.Author.Needs.{needs}
-use Rattle.track_words.specs.Pushing.{rowInto}
+use Rattle.track_words.specs.Inner.{rowInto}
 use Rattle.track_words.proofs.pushing.put_row.Statement.{statement}
 use Rattle.track_words.proofs.pushing.put_row.Tie as tie
 

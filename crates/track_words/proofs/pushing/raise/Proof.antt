@@ -3,7 +3,7 @@ use Prim.Native.Nat.{suc, _≤_, _*_, _-_}
 use mathlib.Core.Path.{_≡_, refl}
 use native.Mathlib.Omega.{arith}
 use borrow.Author.Needs.{needs}
-use Rattle.track_words.specs.Pushing.{raisedBy}
+use Rattle.track_words.specs.Inner.{raisedBy}
 use Rattle.track_words.proofs.pushing.raise.Statement.{statement}
 use Rattle.track_words.proofs.pushing.raise.Tie as tie
 
