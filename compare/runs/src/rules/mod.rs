@@ -36,7 +36,9 @@ pub fn is_value(x: f32) -> bool {
     is_between(x, -LIMIT, LIMIT)
 }
 
-/// NaN, negative and -0 steps count as +0.
+/// NaN, negative and -0 steps count as +0. By the pattern, since a test against 0 becomes a maximum, and Arm's
+/// keeps a signalling NaN.
 pub fn counted(step: f32) -> f32 {
-    if step > 0.0 { step } else { 0.0 }
+    let above_zero = 1..=f32::INFINITY.to_bits();
+    if above_zero.contains(&step.to_bits()) { step } else { 0.0 }
 }
