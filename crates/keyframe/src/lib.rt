@@ -16,7 +16,6 @@ pub use clock::progress_at;
 pub use clock::seek;
 pub use clock::tick;
 pub use limits::clock_fits;
-pub use limits::mode_fits;
 pub use refusing::fill_outcome;
 pub use refusing::looping_outcome;
 pub use refusing::push_outcome;
