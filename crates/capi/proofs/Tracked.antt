@@ -1,37 +1,39 @@
 -- The ways of the calls of a track: its words do not pass the check, and the number is the check's; or they do, and the answer is the track's. Assumes nothing.
-use Prim.Native.Nat.{ℕ, _<_, _≤_}
+use Prim.Native.Nat.{ℕ}
 use mathlib.Core.Path.{_≡_, refl, sym, ap, _∙_}
-use mathlib.Core.Bool.{Bool, true, false, cond, _&&_}
+use mathlib.Core.Bool.{Bool, true, false, cond, not}
 use mathlib.Core.List.{List, [], _∷_}
+use lib.Dec.{eqb}
 use lib.ListN.{length}
-use lib.Ieee.{Float, eq, isNan}
-use borrow.Author.Tests.{lt-ltb, le-ltb, le-leb, lt-leb}
+use lib.Ieee.{Float, eq}
 use native.Mathlib.Omega.{arith}
 use Rattle.math.specs.Rounded.{f32, zeroF}
-use Rattle.math.specs.Range.{clamp01Of, isValue}
+use Rattle.math.specs.Range.{clamp01Of}
 use Rattle.math.proofs.Choice.{of-picked}
 use Rattle.refusal.specs.declared.Refusal.{Refusal}
-use Rattle.refusal.specs.declared.Refusal.the-variants.{RecordBreaksLimit, EasingNotSupplied, EasingParameter, NoFrames, OutputTooShort, ProgressIsNan, TrackFull, TrackLimit}
+use Rattle.refusal.specs.declared.Refusal.the-variants.{RecordBreaksLimit, TrackFull}
+use Rattle.refusal.specs.Number.{numberOf}
 use Rattle.loop_mode.specs.declared.Loop.{Loop}
-use Rattle.easing.specs.declared.answers.Eased.the-variants as eased
-use Rattle.easing.specs.Apply.{fitsRecordOf}
-use Rattle.easing.specs.Kinds.{suppliedOf}
-use Rattle.easing.specs.Params as params
 use Rattle.frames.specs.declared.frame.Keyframe.{Keyframe}
-use Rattle.frames.specs.Limits.{isTime}
 use Rattle.frames.specs.Sampling.{filledOf, sampleOf, unsettledOf}
 use Rattle.keyframe.specs.declared.types.Clock.{Clock}
+use Rattle.keyframe.specs.declared.types.Changed.{Changed}
+use Rattle.keyframe.specs.declared.types.Filled.{Filled}
+use Rattle.keyframe.specs.declared.types.Outcome.{Outcome}
 use Rattle.keyframe.specs.declared.types.Outcome.the-variants as outcome
 use Rattle.keyframe.specs.declared.types.Ticked.{Ticked}
 use Rattle.keyframe.specs.declared.types.Ticked.the-variants as ticked
 use Rattle.keyframe.specs.declared.types.Track.{Track}
-use Rattle.keyframe.specs.Batch.{batchAnswer, batchCount, batchNumber, batchOut, batchUnsettled}
+use Rattle.keyframe.specs.Batch.{batchAnswer, batchCount, batchNumber, batchOut, batchUnsettled, noneFilled}
 use Rattle.keyframe.specs.Clock.{clockIn, clockOf, seekOf, tickOf, tickedIn, withClock}
-use Rattle.keyframe.specs.Limits.{baseOf, endOf, framesIn, modeFits, withinOf}
+use Rattle.keyframe.specs.Limits.{baseOf, endOf, framesIn, withinOf}
 use Rattle.keyframe.specs.Playback.{activeOf, activeTimeOf, completeOf, doneOf, durationIn, playbackIn, playbackOf, playbackProgress, progressOf}
-use Rattle.keyframe.specs.Pushing.{laterOf, loopingOf, pushOf, storedOf, takesOf}
+use Rattle.keyframe.specs.Pushing.{changed, loopingOf, pushOf, storedOf, takesOf, withMode}
 use Rattle.keyframe.specs.Sampling.{valueAtOf}
-use Rattle.keyframe.specs.Stepping.{resetOf, seekToOf, updateOf}
+use Rattle.keyframe.specs.Stepping.{resetOf, seekToOf, soughtOf, updateOf}
+use Rattle.keyframe.specs.Refusing.{fillOutcome, loopingOutcome, pushOutcome, roomOutcome, sampleOutcome, seekOutcome}
+use Rattle.keyframe.proofs.Batches as batch
+use Rattle.keyframe.proofs.Refusals.{changedBy, fill-by, fill-number, looping-by, numberBy, push-by, push-taken, sample-by, sampledBy, seek-by}
 use Rattle.keyframe.proofs.Ticks.{sought-clock, update-ticked}
 use Rattle.words.specs.declared.modes.LoopRead.the-variants as mode
 use Rattle.words.specs.declared.tracks.FrameRead.the-variants as frame
@@ -41,11 +43,11 @@ use Rattle.words.specs.Modes.{loopFrom, flagWord}
 use Rattle.words.specs.Tracks.{frameFrom, frameRead, knownTrack, trackFrom}
 use Rattle.track_words.specs.Checking.{checkOf}
 use Rattle.track_words.specs.Pushing.{hasRoom, pushInto, storedRow}
-use Rattle.track_words.specs.Reading.{clockWords, trackOf}
+use Rattle.track_words.specs.Reading.{trackOf}
 use Rattle.track_words.proofs.Checked.{passed-known, passed-within}
 use Rattle.track_words.proofs.Pushes.{push-outcome}
 use Rattle.capi.specs.Answers.{Answer, accepted, refused, foundWords, foundIn, secondsIn, progressIn, flagIn}
-use Rattle.capi.specs.Tracks.{onTrack, laxTrackPush, pushed, pushedBy, loopInto, looped, laxTrackLooping, laxTrackValueAt, laxTrackValue, laxTrackActiveTime, laxTrackDuration, laxTrackPlaybackDuration, laxTrackProgress, completionIn, laxTrackIsComplete, movedIn, laxTrackReset, laxTrackSeekTo, TrackStepping, steppedIn, laxTrackUpdate, Filling, filledIn, laxTrackValuesAt}
+use Rattle.capi.specs.Tracks.{onTrack, laxTrackPush, pushed, pushedBy, loopInto, loopedBy, looped, laxTrackLooping, laxTrackValueAt, laxTrackValue, laxTrackActiveTime, laxTrackDuration, laxTrackPlaybackDuration, laxTrackProgress, completionIn, laxTrackIsComplete, movedIn, laxTrackReset, laxTrackSeekTo, TrackStepping, steppedIn, laxTrackUpdate, Filling, filledIn, laxTrackValuesAt}
 
 abbrev pub answered : {A : Type 0} → ℕ → A → Answer A
 answered n a = record { number = n; left = a }
@@ -133,14 +135,19 @@ module _ (words : List ℕ) (fine : checkOf words ≡ 0) where
   went : {A : Type 0} (came : A) (answer : Track → Answer A) → onTrack words came answer ≡ answer (trackOf words)
   went came answer = rw (passed-known words fine) refl
 
+  -- a sample, by its outcome
   module _ (secs : Float) (out : List ℕ) where
-    pub value-none : wordAt words 512 ≡ 0 → refused out NoFrames ≡ laxTrackValueAt words secs out
-    unfolding laxTrackValueAt foundIn valueAtOf trackFrom trackIn
-    value-none h = sym (went out (λ t. foundIn out (valueAtOf t secs)) ∙ rw (within, le-ltb 0 (wordAt words 512) (omega (arith, h))) refl)
+    value-by : (o : Outcome) → o ≡ sampleOutcome (wordAt words 512) → foundIn out (sampledBy (sampleOf (framesIn (trackOf words)) secs) o) ≡ laxTrackValueAt words secs out
+    unfolding laxTrackValueAt trackFrom trackIn
+    value-by o e = ap (foundIn out) (sample-by (trackOf words) within secs o e) ∙ sym (went out (λ t. foundIn out (valueAtOf t secs)))
 
-    pub value-some : 0 < wordAt words 512 → accepted (foundWords (sampleOf (framesIn (trackOf words)) secs)) ≡ laxTrackValueAt words secs out
-    unfolding laxTrackValueAt foundIn valueAtOf trackFrom trackIn
-    value-some h = sym (went out (λ t. foundIn out (valueAtOf t secs)) ∙ rw (within, lt-ltb 0 (wordAt words 512) h) refl)
+    pub value-not : (r : Refusal) → outcome.Refused r ≡ sampleOutcome (wordAt words 512) → refused out r ≡ laxTrackValueAt words secs out
+    unfolding foundIn
+    value-not r e = value-by (outcome.Refused r) e
+
+    pub value-is : outcome.Done ≡ sampleOutcome (wordAt words 512) → accepted (foundWords (sampleOf (framesIn (trackOf words)) secs)) ≡ laxTrackValueAt words secs out
+    unfolding foundIn
+    value-is e = value-by outcome.Done e
 
   module _ (out : List ℕ) where
     pub now-is : laxTrackValueAt words (activeOf (trackOf words)) out ≡ laxTrackValue words out
@@ -169,25 +176,31 @@ module _ (words : List ℕ) (fine : checkOf words ≡ 0) where
   complete-is out = sym (went out (λ t. completionIn out (completeOf t)) ∙ rw within refl)
 
   -- a clock in its places
-  stored : (c : Clock) → clockWords words c ≡ clockInto words (withClock (trackOf words) c)
-  unfolding clockWords clockInto
+  stored : (c : Clock) → clockInto words c ≡ clockInto words (clockIn (withClock (trackOf words) c))
+  unfolding clockInto
   stored c = refl
 
-  pub reset-is : accepted (clockWords words (clockOf zeroF 0 false)) ≡ laxTrackReset words
+  pub reset-is : accepted (clockInto words (clockOf zeroF 0 false)) ≡ laxTrackReset words
   unfolding laxTrackReset movedIn resetOf
   reset-is = ap accepted (stored (clockOf zeroF 0 false)) ∙ sym (went words (λ t. movedIn words (resetOf t)) ∙ rw within refl)
 
+  -- a seek, by its outcome
   module _ (p : Float) where
-    pub seek-nan : isNan p ≡ true → refused words ProgressIsNan ≡ laxTrackSeekTo words p
-    unfolding laxTrackSeekTo movedIn seekToOf
-    seek-nan h = sym (went words (λ t. movedIn words (seekToOf t p)) ∙ rw (within, h) refl)
+    sought-by : (o : Outcome) → o ≡ seekOutcome p
+        → movedIn words (changedBy (trackOf words) (changed (soughtOf (endOf (trackOf words .looping) (baseOf (trackOf words))) (trackOf words) (clamp01Of p))) o) ≡ laxTrackSeekTo words p
+    unfolding laxTrackSeekTo
+    sought-by o e = ap (movedIn words) (seek-by (trackOf words) within p o e) ∙ sym (went words (λ t. movedIn words (seekToOf t p)))
 
-    pub seek-is : isNan p ≡ false → accepted (clockWords words (seekOf (endOf (trackOf words .looping) (baseOf (trackOf words))) (baseOf (trackOf words)) (clamp01Of p))) ≡ laxTrackSeekTo words p
-    unfolding laxTrackSeekTo movedIn seekToOf
-    seek-is h =
+    pub seek-not : (r : Refusal) → outcome.Refused r ≡ seekOutcome p → refused words r ≡ laxTrackSeekTo words p
+    unfolding movedIn
+    seek-not r e = sought-by (outcome.Refused r) e
+
+    pub seek-is : outcome.Done ≡ seekOutcome p → accepted (clockInto words (seekOf (endOf (trackOf words .looping) (baseOf (trackOf words))) (baseOf (trackOf words)) (clamp01Of p))) ≡ laxTrackSeekTo words p
+    unfolding movedIn
+    seek-is e =
         let t = trackOf words in
-        ap accepted (stored (seekOf (endOf (t .looping) (baseOf t)) (baseOf t) (clamp01Of p)) ∙ ap (clockInto words) (sought-clock t (endOf (t .looping) (baseOf t)) (clamp01Of p)))
-        ∙ sym (went words (λ t. movedIn words (seekToOf t p)) ∙ rw (within, h) refl)
+        ap accepted (stored (seekOf (endOf (t .looping) (baseOf t)) (baseOf t) (clamp01Of p)) ∙ ap (λ (u : Track). clockInto words (clockIn u)) (sought-clock t (endOf (t .looping) (baseOf t)) (clamp01Of p)))
+        ∙ sought-by outcome.Done e
 
   -- a step, by what the clock makes of it
   module _ (step : Float) (out : ℕ) where
@@ -201,7 +214,7 @@ module _ (words : List ℕ) (fine : checkOf words ≡ 0) where
         ∙ (ap (steppedIn (stepping words out)) (update-ticked (trackOf words) step within) ∙ sym (went (stepping words out) (λ t. steppedIn (stepping words out) (updateOf t step))))
 
     pub update-is : (c : Clock) (running : Bool) → ticked.Ran c running ≡ tickOf (trackOf words .count) (baseOf (trackOf words)) (trackOf words .looping) (clockIn (trackOf words)) step
-        → accepted (stepping (clockWords words c) (flagWord running)) ≡ laxTrackUpdate words step out
+        → accepted (stepping (clockInto words c) (flagWord running)) ≡ laxTrackUpdate words step out
     unfolding steppedIn
     update-is c running e = ap (λ (ws : List ℕ). accepted (stepping ws (flagWord running))) (stored c) ∙ by-tick (ticked.Ran c running) e
 
@@ -211,30 +224,42 @@ module _ (words : List ℕ) (fine : checkOf words ≡ 0) where
 
   -- many times at once
   module _ (times out : List Float) (filled : List ℕ) where
-    abbrev batch : Track → Answer Filling
-    batch t = filledIn (filling out filled) (batchOut t times out) (batchAnswer t times out)
+    abbrev fills : Track → Answer Filling
+    fills t = filledIn (filling out filled) (batchOut t times out) (batchAnswer t times out)
 
-    pub values-none : wordAt words 512 ≡ 0 → refused (filling out filled) NoFrames ≡ laxTrackValuesAt words times out filled
-    unfolding laxTrackValuesAt filledIn batchOut batchCount batchUnsettled batchNumber trackFrom trackIn
-    values-none h = sym (went (filling out filled) batch ∙ rw (within, le-ltb 0 (wordAt words 512) (omega (arith, h))) refl)
+    filled-by : (f : Filled) (left : List Float) → f ≡ batchAnswer (trackOf words) times out → left ≡ batchOut (trackOf words) times out → filledIn (filling out filled) left f ≡ laxTrackValuesAt words times out filled
+    unfolding laxTrackValuesAt
+    filled-by f left e l =
+        ap (λ (x : Filled). filledIn (filling out filled) left x) e
+        ∙ (ap (λ (x : List Float). filledIn (filling out filled) x (batchAnswer (trackOf words) times out)) l ∙ sym (went (filling out filled) fills))
 
-    module _ (some : 0 < wordAt words 512) where
-      pub values-short : length out < length times → refused (filling out filled) OutputTooShort ≡ laxTrackValuesAt words times out filled
-      unfolding laxTrackValuesAt filledIn batchOut batchCount batchUnsettled batchNumber trackFrom trackIn
-      values-short h = sym (went (filling out filled) batch ∙ rw (within, lt-ltb 0 (wordAt words 512) some, lt-leb (length times) (length out) h) refl)
+    none-left : (r : Refusal) → eqb (numberOf r) 0 ≡ false → refused (filling out filled) r ≡ filledIn (filling out filled) out (noneFilled r)
+    unfolding filledIn
+    none-left r some = rw some refl
 
-      pub values-is : length times ≤ length out → accepted (filling (filledOf (framesIn (trackOf words)) times out) (length times ∷ unsettledOf (framesIn (trackOf words)) times ∷ [])) ≡ laxTrackValuesAt words times out filled
-      unfolding laxTrackValuesAt filledIn batchOut batchCount batchUnsettled batchNumber trackFrom trackIn
-      values-is h = sym (went (filling out filled) batch ∙ rw (within, lt-ltb 0 (wordAt words 512) some, le-leb (length times) (length out) h) refl)
+    pub values-not : (r : Refusal) → outcome.Refused r ≡ fillOutcome (wordAt words 512) (length times) (length out) → refused (filling out filled) r ≡ laxTrackValuesAt words times out filled
+    unfolding trackFrom trackIn
+    values-not r e =
+        let some = fill-number (wordAt words 512) (length times) (length out) r e in
+        let b = batch.refused (trackOf words) times out r (fill-by (trackOf words) within times out (outcome.Refused r) e) some in
+        none-left r some ∙ filled-by (noneFilled r) out (b .0) (b .1)
 
+    pub values-is : outcome.Done ≡ fillOutcome (wordAt words 512) (length times) (length out)
+        → accepted (filling (filledOf (framesIn (trackOf words)) times out) (length times ∷ unsettledOf (framesIn (trackOf words)) times ∷ [])) ≡ laxTrackValuesAt words times out filled
+    unfolding filledIn trackFrom trackIn
+    values-is e = let b = batch.accepted (trackOf words) times out (fill-by (trackOf words) within times out outcome.Done e) in filled-by _ _ (b .0) (b .1)
+
+  -- a change of mode, by its outcome
   module _ (m : List ℕ) (l : Loop) (known : loopFrom (loopAt m 0) ≡ mode.Known l) where
-    pub looping-limit : modeFits l (baseOf (trackOf words)) ≡ false → refused words TrackLimit ≡ laxTrackLooping words m
-    unfolding laxTrackLooping loopingOf
-    looping-limit h = sym (rw known (went words (looped words m (mode.Known l)) ∙ rw (within, h) refl))
+    looped-by : (o : Outcome) → o ≡ loopingOutcome l (baseOf (trackOf words)) → loopedBy words m (changedBy (trackOf words) (changed (withMode (trackOf words) l)) o .outcome) ≡ laxTrackLooping words m
+    unfolding laxTrackLooping
+    looped-by o e = ap (λ (a : Changed). loopedBy words m (a .outcome)) (looping-by (trackOf words) within l o e) ∙ sym (rw known (went words (looped words m (mode.Known l))))
 
-    pub looping-is : modeFits l (baseOf (trackOf words)) ≡ true → accepted (loopInto words m) ≡ laxTrackLooping words m
-    unfolding laxTrackLooping loopingOf
-    looping-is h = sym (rw known (went words (looped words m (mode.Known l)) ∙ rw (within, h) refl))
+    pub looping-not : (r : Refusal) → outcome.Refused r ≡ loopingOutcome l (baseOf (trackOf words)) → refused words r ≡ laxTrackLooping words m
+    looping-not r e = looped-by (outcome.Refused r) e
+
+    pub looping-is : outcome.Done ≡ loopingOutcome l (baseOf (trackOf words)) → accepted (loopInto words m) ≡ laxTrackLooping words m
+    looping-is e = looped-by outcome.Done e
 
 pub looping-unknown : (words m : List ℕ) → loopFrom (loopAt m 0) ≡ mode.Unknown → answered 100 words ≡ laxTrackLooping words m
 unfolding laxTrackLooping
@@ -274,35 +299,32 @@ module _ (words row : List ℕ) (k : Keyframe) (known : frameRead (frameAt row 0
     unfolding laxTrackPush
     went-push = rw known (went words fine words (pushed words row (frame.Known k)))
 
-    pub push-not-supplied : suppliedOf (k .easing) ≡ false → refused words EasingNotSupplied ≡ laxTrackPush words row
-    unfolding pushOf
-    push-not-supplied s = sym (went-push ∙ rw (within words fine, s) refl)
+    -- by its outcome, with the time as it is stored
+    module _ (time : Float) (at : time ≡ floatAt (storedRow row) 0) where
+      as-stored : (o : Outcome) → o ≡ pushOutcome (k .easing) (trackOf words .looping) (baseOf (trackOf words)) time (k .value)
+          → o ≡ pushOutcome (k .easing) (trackOf words .looping) (baseOf (trackOf words)) (storedOf k .time) (k .value)
+      as-stored o e = rw (at-time, ← at) e
 
-    module _ (supplied : suppliedOf (k .easing) ≡ true) where
-      pub push-parameter : fitsRecordOf (k .easing) ≡ false → refused words EasingParameter ≡ laxTrackPush words row
-      unfolding pushOf fitsRecordOf
-      push-parameter h = sym (went-push ∙ rw (within words fine, supplied, rw supplied at h) refl)
+      pub push-not : (r : Refusal) → outcome.Refused r ≡ pushOutcome (k .easing) (trackOf words .looping) (baseOf (trackOf words)) time (k .value) → refused words r ≡ laxTrackPush words row
+      push-not r e =
+          ap (λ (a : Changed). pushedBy words row (a .outcome)) (push-by (trackOf words) (within words fine) k (storedOf k) (baseOf (trackOf words)) refl refl (outcome.Refused r) (as-stored (outcome.Refused r) e))
+          ∙ sym went-push
 
-      module _ (fits : fitsRecordOf (k .easing) ≡ true) where
-        params-fit : params.withinOf (params.paramsOf (k .easing)) ≡ true
-        unfolding fitsRecordOf
-        params-fit = rw supplied at fits
-
-        -- what is taken, by the stored time
-        takes-by : (time : Float) (b : Bool) → time ≡ floatAt (storedRow row) 0 → isTime time && isValue (k .value) && modeFits (trackOf words .looping) (laterOf (baseOf (trackOf words)) time) ≡ b → takesOf (trackOf words) (storedOf k) ≡ b
+      module _ (taken : outcome.Done ≡ pushOutcome (k .easing) (trackOf words .looping) (baseOf (trackOf words)) time (k .value)) where
+        room-is : pushOf (trackOf words) k .outcome ≡ cond (hasRoom words (storedRow row)) outcome.Done (outcome.Refused TrackFull)
         unfolding takesOf
-        takes-by time b e h = rw (at-time, ← e) h
+        room-is =
+            let p = push-taken _ _ _ _ _ (as-stored outcome.Done taken) in
+            push-outcome words (storedRow row) fine k (p .0) (p .1) (p .2) at-time
 
-        pub push-limit : (time : Float) → time ≡ floatAt (storedRow row) 0 → isTime time && isValue (k .value) && modeFits (trackOf words .looping) (laterOf (baseOf (trackOf words)) time) ≡ false → refused words TrackLimit ≡ laxTrackPush words row
-        unfolding pushOf
-        push-limit time e h = sym (went-push ∙ rw (within words fine, supplied, params-fit, takes-by time false e h) refl)
-
-        module _ (time : Float) (e : time ≡ floatAt (storedRow row) 0) (h : isTime time && isValue (k .value) && modeFits (trackOf words .looping) (laterOf (baseOf (trackOf words)) time) ≡ true) where
-          outcome-is : pushOf (trackOf words) k .outcome ≡ cond (hasRoom words (storedRow row)) outcome.Done (outcome.Refused TrackFull)
-          outcome-is = push-outcome words (storedRow row) fine k supplied params-fit (takes-by time true e h) at-time
-
-          pub push-full : hasRoom words (storedRow row) ≡ false → refused words TrackFull ≡ laxTrackPush words row
-          push-full r = sym (went-push ∙ rw (outcome-is, r) refl)
-
-          pub push-is : hasRoom words (storedRow row) ≡ true → accepted (pushInto words (storedRow row)) ≡ laxTrackPush words row
-          push-is r = sym (went-push ∙ rw (outcome-is, r) refl)
+        -- what is left where there is room, and where there is none
+        pub push-is : (b : Bool) → b ≡ hasRoom words (storedRow row) → (left : List ℕ) → left ≡ cond b (pushInto words (storedRow row)) words → (o : Outcome) → o ≡ roomOutcome (not b)
+            → answered (numberBy o) left ≡ laxTrackPush words row
+        unfolding roomOutcome
+        push-is b r left l o e =
+            let w : laxTrackPush words row ≡ pushedBy words row (cond b outcome.Done (outcome.Refused TrackFull)) = rw r (went-push ∙ rw room-is refl) in
+            rw (l, e) (go b ∙ sym w)
+          where
+            go : (b : Bool) → answered (numberBy (roomOutcome (not b))) (cond b (pushInto words (storedRow row)) words) ≡ pushedBy words row (cond b outcome.Done (outcome.Refused TrackFull))
+            go true = refl
+            go false = refl

@@ -22,6 +22,7 @@ use Rattle.keyframe.specs.Sampling.{valueAtOf, valueNow}
 use Rattle.keyframe.specs.Batch.{batchOut, batchAnswer}
 use Rattle.keyframe.specs.Playback.{activeTimeOf, durationIn, playbackIn, progressOf, completeOf}
 use Rattle.keyframe.specs.Stepping.{resetOf, seekToOf, updateOf}
+use Rattle.keyframe.specs.Clock.{clockIn}
 use Rattle.words.specs.declared.modes.LoopRead.{LoopRead}
 use Rattle.words.specs.declared.modes.LoopRead.the-variants as mode
 use Rattle.words.specs.declared.tracks.FrameRead.{FrameRead}
@@ -101,7 +102,7 @@ unfoldable pub laxTrackIsComplete : List ℕ → ℕ → Answer ℕ
 laxTrackIsComplete ws out = onTrack ws out (λ t. completionIn out (completeOf t))
 
 abbrev pub movedBy : List ℕ → Track → Outcome → Answer (List ℕ)
-movedBy ws t outcome.Done = accepted (clockInto ws t)
+movedBy ws t outcome.Done = accepted (clockInto ws (clockIn t))
 movedBy ws t (outcome.Refused r) = refused ws r
 
 -- what moves in a track
@@ -120,7 +121,7 @@ pub record TrackStepping : Type 0 where
   pub running : ℕ
 
 abbrev pub steppedBy : TrackStepping → Track → Stepped → Answer TrackStepping
-steppedBy came t (stepped.Ran running) = accepted (record { words = clockInto (came .words) t; running = flagWord running })
+steppedBy came t (stepped.Ran running) = accepted (record { words = clockInto (came .words) (clockIn t); running = flagWord running })
 steppedBy came t (stepped.Refused r) = refused came r
 
 unfoldable pub steppedIn : TrackStepping → Updated → Answer TrackStepping

@@ -5,6 +5,7 @@ ghost use Rattle.bezier.specs.Bezier.{plainOf};
 ghost use Rattle.steps.specs.Course.{outcomeNumber};
 ghost use Rattle.capi.specs.Answers.{answering, accepted, foundWords, foundIn, secondsIn, progressIn, flagIn};
 ghost use Rattle.capi.specs.Tweens.{snapshotIn, changedIn};
+use bezier::Found;
 use easing::Eased;
 use steps::Outcome;
 use tween::Changed;
@@ -17,17 +18,23 @@ use words::state_word;
 use words::store_tween;
 
 // The value's bits, whether it is settled, and how many the search evaluated.
+pub fn store_found(found: Found, out: &mut [u32; 4])
+    ensures { λ _. ⌜ now (out .exit) ≡ foundWords found ⌝ }
+{
+    *out = [
+        math::bits(found.value),
+        flag_word(found.settled),
+        found.xs,
+        found.derivatives as u32,
+    ];
+}
+
 pub fn put_found(a: Eased, out: &mut [u32; 4]) -> u32
     ensures { λ r. ⌜ answering r (now (out .exit)) ≡ foundIn (now (out .entry)) a ⌝ }
 {
     match a {
         Eased::Value(found) => {
-            *out = [
-                math::bits(found.value),
-                flag_word(found.settled),
-                found.xs,
-                found.derivatives as u32,
-            ];
+            store_found(found, out);
             0
         }
         Eased::Refused(refusal) => refusal.number(),

@@ -5,6 +5,5 @@ mod answers;
 mod easings;
 mod logs;
 mod replays;
-mod track_answers;
 mod tracks;
 mod tweens;

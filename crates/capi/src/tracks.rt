@@ -3,10 +3,10 @@
 ghost use mathlib.Core.Path.{_≡_};
 ghost use Rattle.capi.specs.Tracks.{laxTrackNew, laxTrackPush, easedRow, plainRow, laxTrackLooping, laxTrackValueAt, laxTrackValue, laxTrackValuesAt, laxTrackActiveTime, laxTrackDuration, laxTrackPlaybackDuration, laxTrackProgress, laxTrackIsComplete, laxTrackReset, laxTrackSeekTo, laxTrackUpdate};
 use crate::answers::UNKNOWN_WORD;
-use crate::track_answers::store_found;
+use crate::answers::store_found;
 use keyframe::Clock;
+use keyframe::Outcome;
 use keyframe::Ticked;
-use refusal::Refusal;
 use track_words::check;
 use words::FrameRead;
 use words::LoopRead;
@@ -37,8 +37,11 @@ pub extern "C" fn lax_track_looping(w: &mut [u32; 518], mode: &[u32; 2]) -> u32
     if number != 0 {
         return number;
     }
-    if !keyframe::mode_fits(looping, track_words::duration(w)) {
-        return Refusal::TrackLimit.number();
+    if let Outcome::Refused(refusal) = keyframe::looping_outcome(
+        looping,
+        track_words::duration(w),
+    ) {
+        return refusal.number();
     }
     w[514] = mode[0];
     w[515] = mode[1];
@@ -55,8 +58,8 @@ pub extern "C" fn lax_track_value_at(w: &[u32; 518], secs: f32, out: &mut [u32; 
     if number != 0 {
         return number;
     }
-    if track_words::count(w) == 0 {
-        return Refusal::NoFrames.number();
+    if let Outcome::Refused(refusal) = keyframe::sample_outcome(track_words::count(w)) {
+        return refusal.number();
     }
     store_found(track_words::value_at(w, secs), out);
     0
@@ -71,8 +74,8 @@ pub extern "C" fn lax_track_value(w: &[u32; 518], out: &mut [u32; 4]) -> u32
     if number != 0 {
         return number;
     }
-    if track_words::count(w) == 0 {
-        return Refusal::NoFrames.number();
+    if let Outcome::Refused(refusal) = keyframe::sample_outcome(track_words::count(w)) {
+        return refusal.number();
     }
     store_found(track_words::value_at(w, track_words::active_time(w)), out);
     0
@@ -165,8 +168,8 @@ pub extern "C" fn lax_track_seek_to(w: &mut [u32; 518], p: f32) -> u32
     if number != 0 {
         return number;
     }
-    if math::is_nan(p) {
-        return Refusal::ProgressIsNan.number();
+    if let Outcome::Refused(refusal) = keyframe::seek_outcome(p) {
+        return refusal.number();
     }
     let c = track_words::seek(w, math::clamp01(p));
     track_words::store_clock(w, c);
@@ -207,20 +210,16 @@ fn push_row(w: &mut [u32; 518], row: &[u32; 8]) -> u32
         return number;
     }
     let easing = k.easing;
-    if !easing.is_supplied() {
-        return Refusal::EasingNotSupplied.number();
-    }
-    if !easing.fits_record() {
-        return Refusal::EasingParameter.number();
-    }
     let stored = track_words::stored_row(row);
-    if !track_words::takes(w, math::of_bits(stored[0]), k.value) {
-        return Refusal::TrackLimit.number();
+    let time = math::of_bits(stored[0]);
+    if let Outcome::Refused(refusal) = track_words::push_outcome(w, easing, time, k.value) {
+        return refusal.number();
     }
-    if track_words::put(w, &stored) {
-        return 0;
+    let full = !track_words::put(w, &stored);
+    if let Outcome::Refused(refusal) = keyframe::room_outcome(full) {
+        return refusal.number();
     }
-    Refusal::TrackFull.number()
+    0
 }
 
 #[no_mangle]
@@ -280,11 +279,9 @@ pub extern "C" fn lax_track_values_at(
     if number != 0 {
         return number;
     }
-    if track_words::count(w) == 0 {
-        return Refusal::NoFrames.number();
-    }
-    if out.len() < times.len() {
-        return Refusal::OutputTooShort.number();
+    let outcome = keyframe::fill_outcome(track_words::count(w), times.len(), out.len());
+    if let Outcome::Refused(refusal) = outcome {
+        return refusal.number();
     }
     let unsettled = track_words::fill(w, times, out);
     *filled = [times.len(), unsettled];

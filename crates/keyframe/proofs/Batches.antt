@@ -8,9 +8,9 @@ use lib.Dec.{eqb, ltb, leb}
 use lib.ListN.{length, getD, drop, length-map, List·getD-append}
 use lib.Seq.{getD-append-add, getD-drop}
 use lib.Ieee.{Float, nan}
-use borrow.Author.Tests.{lt-ltb, le-ltb, le-leb, lt-leb, leb-true}
+use borrow.Author.Tests.{leb-true}
 use Rattle.refusal.specs.declared.Refusal.{Refusal}
-use Rattle.refusal.specs.declared.Refusal.the-variants.{RecordBreaksLimit, NoFrames, OutputTooShort}
+use Rattle.refusal.specs.declared.Refusal.the-variants.{RecordBreaksLimit}
 use Rattle.refusal.specs.Number.{numberOf}
 use Rattle.frames.specs.Sampling.{sampleOf, filledOf, unsettledOf}
 use Rattle.keyframe.specs.declared.types.Track.{Track}
@@ -21,19 +21,6 @@ module _ (t : Track) (times out : List Float) where
   pub number-broken : withinOf t ≡ false → numberOf RecordBreaksLimit ≡ batchNumber t times out
   unfolding batchNumber
   number-broken w = rw w
-
-  module _ (w : withinOf t ≡ true) where
-    pub number-none : t .count ≡ 0 → numberOf NoFrames ≡ batchNumber t times out
-    unfolding batchNumber
-    number-none c = rw (w, le-ltb 0 (t .count) (omega (arith, c)))
-
-    pub number-short : (t .count ≡ 0 → ⊥) → length out < length times → numberOf OutputTooShort ≡ batchNumber t times out
-    unfolding batchNumber
-    number-short c h = rw (w, lt-ltb 0 (t .count) (omega (arith, c)), lt-leb (length times) (length out) h)
-
-    pub number-taken : (t .count ≡ 0 → ⊥) → length times ≤ length out → 0 ≡ batchNumber t times out
-    unfolding batchNumber
-    number-taken c h = rw (w, lt-ltb 0 (t .count) (omega (arith, c)), le-leb (length times) (length out) h)
 
   pub refused : (r : Refusal) → numberOf r ≡ batchNumber t times out → eqb (numberOf r) 0 ≡ false → (noneFilled r ≡ batchAnswer t times out) × (out ≡ batchOut t times out)
   unfolding batchCount batchOut batchUnsettled

@@ -4,5 +4,6 @@ pub mod Kept
 mod Moves
 pub mod Promises
 pub mod Records
+pub mod Refusals
 pub mod Ticks
 pub mod Unchanged

@@ -3,7 +3,9 @@ ghost use mathlib.Core.Path.{_≡_};
 ghost use lib.ListN.{take};
 ghost use denote.Ref.{ptr};
 ghost use Rattle.keyframe.specs.Batch.{batchNumber, batchOut, batchCount, batchUnsettled, batchAnswer, noneFilled};
+use crate::refusing::fill_outcome;
 use crate::types::Filled;
+use crate::types::Outcome;
 use crate::types::Track;
 use refusal::Refusal;
 
@@ -27,11 +29,8 @@ impl Track {
         if !self.is_within_limits() {
             return none_filled(Refusal::RecordBreaksLimit);
         }
-        if self.count == 0 {
-            return none_filled(Refusal::NoFrames);
-        }
-        if out.len() < times.len() {
-            return none_filled(Refusal::OutputTooShort);
+        if let Outcome::Refused(refusal) = fill_outcome(self.count, times.len(), out.len()) {
+            return none_filled(refusal);
         }
         let list = self.frames;
         let unsettled = frames::fill(list, self.count, times, out);

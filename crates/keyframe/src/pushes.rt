@@ -1,16 +1,15 @@
 // Frames pushed into a track, and a change of its mode.
 ghost use mathlib.Core.Path.{_≡_};
-ghost use mathlib.Core.Bool.{_&&_};
 ghost use Prim.Native.Nat.{_≤_};
 ghost use Rattle.easing.specs.declared.kinds.Easing.the-variants.{Linear};
-ghost use Rattle.math.specs.Range.{isValue};
-ghost use Rattle.frames.specs.Limits.{frameOf, isTime};
+ghost use Rattle.frames.specs.Limits.{frameOf};
 ghost use Rattle.frames.specs.Pushing.{putOf};
-ghost use Rattle.keyframe.specs.Limits.{modeFits};
-ghost use Rattle.keyframe.specs.Pushing.{newTrack, storedOf, laterOf, placedOf, pushOf, loopingOf};
+ghost use Rattle.keyframe.specs.Pushing.{newTrack, storedOf, placedOf, pushOf, loopingOf};
 use crate::handed::refuse;
 use crate::limits::last_time;
-use crate::limits::mode_fits;
+use crate::refusing::looping_outcome;
+use crate::refusing::push_outcome;
+use crate::refusing::room_outcome;
 use crate::types::Changed;
 use crate::types::Outcome;
 use crate::types::Track;
@@ -28,29 +27,14 @@ fn stored(k: Keyframe) -> Keyframe
     u
 }
 
-fn later(base: f32, time: f32) -> f32
-    ensures { λ r. ⌜ r ≡ laterOf base time ⌝ }
-{
-    if time < base { base } else { time }
-}
-
-// Whether the frame's time and value, and the total with it in, are within their limits. last is the
-// last time of the track.
-fn takes(looping: Loop, last: f32, k: Keyframe) -> bool
-    ensures { λ r. ⌜ r ≡ (isTime (k .time) && isValue (k .value) && modeFits looping (laterOf last (k .time))) ⌝ }
-{
-    let base = later(last, k.time);
-    frames::is_time(k.time) & math::is_value(k.value) & mode_fits(looping, base)
-}
-
 fn place(track: Track, k: Keyframe) -> Changed
     requires { ⌜ track .count ≤ 64 ⌝ }
     ensures { λ r. ⌜ r ≡ placedOf track (putOf (track .frames) (track .count) k) ⌝ }
 {
     let old = track.frames;
     let put = frames::put(old, track.count, k);
-    if put.full {
-        return refuse(track, Refusal::TrackFull);
+    if let Outcome::Refused(refusal) = room_outcome(put.full) {
+        return refuse(track, refusal);
     }
     let frames = put.frames;
     let mut u = track;
@@ -101,20 +85,15 @@ impl Track {
         if !self.is_within_limits() {
             return refuse(self, Refusal::RecordBreaksLimit);
         }
-        let easing = k.easing;
-        if !easing.is_supplied() {
-            return refuse(self, Refusal::EasingNotSupplied);
-        }
-        if !easing.fits_record() {
-            return refuse(self, Refusal::EasingParameter);
-        }
         let frame = stored(k);
         // Not by `last_time`, which would copy the track once more.
         let n = self.count;
         let last = if n == 0 { 0.0 } else { self.frames[n - 1].time };
         let looping = self.looping;
-        if !takes(looping, last, frame) {
-            return refuse(self, Refusal::TrackLimit);
+        let easing = k.easing;
+        let outcome = push_outcome(easing, looping, last, frame.time, frame.value);
+        if let Outcome::Refused(refusal) = outcome {
+            return refuse(self, refusal);
         }
         place(self, frame)
     }
@@ -126,8 +105,8 @@ impl Track {
         if !self.is_within_limits() {
             return refuse(self, Refusal::RecordBreaksLimit);
         }
-        if !mode_fits(mode, last_time(self)) {
-            return refuse(self, Refusal::TrackLimit);
+        if let Outcome::Refused(refusal) = looping_outcome(mode, last_time(self)) {
+            return refuse(self, refusal);
         }
         let frames = self.frames;
         let track = Track {

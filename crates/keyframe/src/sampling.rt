@@ -2,6 +2,8 @@
 ghost use mathlib.Core.Path.{_≡_};
 ghost use Rattle.keyframe.specs.Sampling.{valueAtOf, valueNow};
 use crate::playback::active;
+use crate::refusing::sample_outcome;
+use crate::types::Outcome;
 use crate::types::Track;
 use easing::Eased;
 use refusal::Refusal;
@@ -15,8 +17,8 @@ impl Track {
         if !self.is_within_limits() {
             return Eased::Refused(Refusal::RecordBreaksLimit);
         }
-        if self.count == 0 {
-            return Eased::Refused(Refusal::NoFrames);
+        if let Outcome::Refused(refusal) = sample_outcome(self.count) {
+            return Eased::Refused(refusal);
         }
         let list = self.frames;
         Eased::Value(frames::sample(list, self.count, secs.0))
@@ -29,8 +31,8 @@ impl Track {
         if !self.is_within_limits() {
             return Eased::Refused(Refusal::RecordBreaksLimit);
         }
-        if self.count == 0 {
-            return Eased::Refused(Refusal::NoFrames);
+        if let Outcome::Refused(refusal) = sample_outcome(self.count) {
+            return Eased::Refused(refusal);
         }
         let list = self.frames;
         let secs = active(self);

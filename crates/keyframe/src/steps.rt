@@ -8,6 +8,7 @@ use crate::handed::moved;
 use crate::handed::refuse;
 use crate::handed::run;
 use crate::limits::last_time;
+use crate::refusing::seek_outcome;
 use crate::types::Changed;
 use crate::types::Clock;
 use crate::types::Outcome;
@@ -58,8 +59,8 @@ impl Track {
         if !self.is_within_limits() {
             return refuse(self, Refusal::RecordBreaksLimit);
         }
-        if math::is_nan(progress.0) {
-            return refuse(self, Refusal::ProgressIsNan);
+        if let Outcome::Refused(refusal) = seek_outcome(progress.0) {
+            return refuse(self, refusal);
         }
         let looping = self.looping;
         let c = seek(looping, last_time(self), math::clamp01(progress.0));

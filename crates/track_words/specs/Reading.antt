@@ -1,14 +1,10 @@
 -- The track that 518 words stand for.
 use Prim.Native.Nat.{ℕ, _*_}
 use mathlib.Core.List.{List}
-use lib.ListN.{set}
-use Rattle.math.specs.Bits.{bitsOf}
 use Rattle.math.specs.Lists.{firsts}
 use Rattle.frames.specs.declared.frame.Keyframe.{Keyframe}
-use Rattle.keyframe.specs.declared.types.Clock.{Clock}
 use Rattle.keyframe.specs.declared.types.Track.{Track}
 use Rattle.words.specs.Lent.{frameAt, trackIn}
-use Rattle.words.specs.Modes.{flagWord}
 use Rattle.words.specs.Tracks.{frameFrom, trackFrom}
 
 -- what is not known reads as Linear or Once
@@ -22,7 +18,3 @@ frameIn words i = frameFrom (frameAt words (8 * i))
 -- the frames of the 64 places, the track's and those behind them
 unfoldable pub framesOf : List ℕ → List Keyframe
 framesOf words = firsts (frameIn words) 64
-
--- a clock in its places
-unfoldable pub clockWords : List ℕ → Clock → List ℕ
-clockWords words c = set (set (set words 513 (bitsOf (c .elapsed))) 516 (c .«loop_count»)) 517 (flagWord (c .complete))

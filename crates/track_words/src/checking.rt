@@ -2,6 +2,8 @@
 ghost use mathlib.Core.Path.{_≡_};
 ghost use Prim.Native.Nat.{_≤_};
 ghost use lib.ListN.{take};
+ghost use Rattle.refusal.specs.declared.Refusal.the-variants.{RecordBreaksLimit};
+ghost use Rattle.refusal.specs.Number.{numberOf};
 ghost use Rattle.words.specs.Lent.{easingAt, trackIn};
 ghost use Rattle.words.specs.Sampling.{easingFits};
 ghost use Rattle.words.specs.Tracks.{knownKinds};
@@ -13,6 +15,7 @@ use crate::reading::last_time;
 use crate::reading::looping;
 use crate::reading::wide;
 use crate::reading::word_at;
+use refusal::Refusal;
 use words::UNKNOWN_WORD;
 
 // The first 13 kinds have no parameters: the commonest are told by one test.
@@ -67,6 +70,12 @@ fn kinds_known(w: &[u32; 518], n: usize) -> bool
     true
 }
 
+fn breaks_limit() -> u32
+    ensures { λ r. ⌜ r ≡ numberOf RecordBreaksLimit ⌝ }
+{
+    Refusal::RecordBreaksLimit.number()
+}
+
 // What is left to ask where the frames fit.
 fn check_head(w: &[u32; 518], base: f32) -> u32
     ensures { λ r. ⌜ r ≡ headOf (now (w .entry)) base ⌝ }
@@ -75,7 +84,7 @@ fn check_head(w: &[u32; 518], base: f32) -> u32
         if keyframe::clock_fits(elapsed(w), looping(w), base) {
             return 0;
         }
-        return 4;
+        return breaks_limit();
     }
     UNKNOWN_WORD
 }
@@ -91,7 +100,7 @@ pub fn check(w: &[u32; 518]) -> u32
         }
     }
     if kinds_known(w, words::places(count)) & (word_at(w, 514) < 5) {
-        return 4;
+        return breaks_limit();
     }
     UNKNOWN_WORD
 }

@@ -19,6 +19,6 @@ pub use playing::seek;
 pub use playing::store_clock;
 pub use playing::tick;
 pub use playing::value_at;
+pub use pushing::push_outcome;
 pub use pushing::put;
 pub use pushing::stored_row;
-pub use pushing::takes;

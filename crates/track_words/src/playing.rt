@@ -5,9 +5,9 @@ ghost use Rattle.frames.specs.Sampling.{sampleOf};
 ghost use Rattle.keyframe.specs.Clock.{clockIn, seekOf, tickOf};
 ghost use Rattle.keyframe.specs.Limits.{baseOf, endOf, framesIn};
 ghost use Rattle.keyframe.specs.Playback.{activeOf, doneOf, playbackOf, playbackProgress};
-ghost use Rattle.words.specs.Lent.{wordAt};
+ghost use Rattle.words.specs.Lent.{clockInto, wordAt};
 ghost use Rattle.track_words.specs.Checking.{checkOf};
-ghost use Rattle.track_words.specs.Reading.{clockWords, trackOf};
+ghost use Rattle.track_words.specs.Reading.{trackOf};
 use crate::reading::complete;
 use crate::reading::elapsed;
 use crate::reading::last_time;
@@ -86,7 +86,7 @@ pub fn seek(w: &[u32; 518], p: f32) -> Clock
 }
 
 pub fn store_clock(w: &mut [u32; 518], c: Clock)
-    ensures { λ _. ⌜ now (w .exit) ≡ clockWords (now (w .entry)) c ⌝ }
+    ensures { λ _. ⌜ now (w .exit) ≡ clockInto (now (w .entry)) c ⌝ }
 {
     w[513] = math::bits(c.elapsed);
     w[516] = c.loop_count;

@@ -1,15 +1,13 @@
 // A frame pushed into the words of a track.
 ghost use mathlib.Core.Path.{_≡_};
-ghost use mathlib.Core.Bool.{cond, _&&_};
+ghost use mathlib.Core.Bool.{cond};
 ghost use Prim.Native.Nat.{_-_, _*_, _<_, _≤_};
 ghost use lib.ListN.{take};
 ghost use lib.Ieee.{eq};
-ghost use Rattle.math.specs.Range.{isValue};
 ghost use Rattle.math.specs.Rounded.{f32, zeroF};
 ghost use Rattle.frames.specs.Inner.{earlierOf};
-ghost use Rattle.frames.specs.Limits.{isTime};
-ghost use Rattle.keyframe.specs.Limits.{baseOf, modeFits};
-ghost use Rattle.keyframe.specs.Pushing.{laterOf};
+ghost use Rattle.keyframe.specs.Limits.{baseOf};
+ghost use Rattle.keyframe.specs.Refusing.{pushOutcome};
 ghost use Rattle.track_words.specs.Checking.{checkOf};
 ghost use Rattle.track_words.specs.Inner.{raisedBy, rowInto};
 ghost use Rattle.track_words.specs.Pushing.{hasRoom, pushInto, storedRow};
@@ -18,6 +16,8 @@ use crate::playing::count;
 use crate::playing::duration;
 use crate::reading::float_at;
 use crate::reading::looping;
+use easing::Easing;
+use keyframe::Outcome;
 
 // -0 as a time becomes +0.
 fn stored_time(word: u32) -> u32
@@ -36,19 +36,12 @@ pub fn stored_row(row: &[u32; 8]) -> [u32; 8]
     [time, row[1], row[2], row[3], row[4], row[5], row[6], row[7]]
 }
 
-fn later(base: f32, time: f32) -> f32
-    ensures { λ r. ⌜ r ≡ laterOf base time ⌝ }
-{
-    if time < base { base } else { time }
-}
-
-// Whether a frame's time and value, and the total with it in, are within their limits.
-pub fn takes(w: &[u32; 518], time: f32, value: f32) -> bool
+// Whether a frame with this easing, time and value may go in, if there is room.
+pub fn push_outcome(w: &[u32; 518], easing: Easing, time: f32, value: f32) -> Outcome
     requires { ⌜ checkOf (now w) ≡ 0 ⌝ }
-    ensures { λ r. let t = trackOf (now (w .entry)) in ⌜ r ≡ (isTime time && isValue value && modeFits (t .looping) (laterOf (baseOf t) time)) ⌝ }
+    ensures { λ r. let t = trackOf (now (w .entry)) in ⌜ r ≡ pushOutcome easing (t .looping) (baseOf t) time value ⌝ }
 {
-    let base = later(duration(w), time);
-    frames::is_time(time) & math::is_value(value) & keyframe::mode_fits(looping(w), base)
+    keyframe::push_outcome(easing, looping(w), duration(w), time, value)
 }
 
 // How many of the first n frames, from the front, are before the time.

@@ -7,7 +7,7 @@ use Rattle.math.specs.Bits.{bitsOf}
 use Rattle.math.specs.Lists.{firsts}
 use Rattle.math.specs.Rounded.{f32}
 use Rattle.tween.specs.declared.record.Tween.{Tween}
-use Rattle.keyframe.specs.declared.types.Track.{Track}
+use Rattle.keyframe.specs.declared.types.Clock.{Clock}
 use Rattle.words.specs.declared.kinds.LaxEasing.{LaxEasing}
 use Rattle.words.specs.declared.modes.LaxLoop.{LaxLoop}
 use Rattle.words.specs.declared.tweens.LaxTween.{LaxTween}
@@ -82,5 +82,5 @@ tweenInto words t =
     set (set (set times 15 (stateWord (t .state))) 16 (t .«loop_count»)) 17 (flagWord (t .«ping_pong_reverse»))
 
 -- what moves in a track, in its places
-unfoldable pub clockInto : List ℕ → Track → List ℕ
-clockInto words t = set (set (set words 513 (bitsOf (t .elapsed))) 516 (t .«loop_count»)) 517 (flagWord (t .complete))
+unfoldable pub clockInto : List ℕ → Clock → List ℕ
+clockInto words c = set (set (set words 513 (bitsOf (c .elapsed))) 516 (c .«loop_count»)) 517 (flagWord (c .complete))

@@ -11,9 +11,7 @@ put-found-spec =
     (tie.spec
     (λ c. search needs)
     (λ c κs. search needs)
-    (λ c κs. search needs)
-    (λ c. search needs)
     (λ c. search needs)
     (λ c κs. search needs)
-    (λ c. simp (c .before .before .before .before .before .a .given .1, c .before .before .flag-word .ensures, c .before .before .before .bits .ensures))
+    (λ c. simp (c .before .before .before .a .given .1, c .store-found .ensures))
     (λ c. simp (c .before .before .a2 .given .1, c .number .ensures)))

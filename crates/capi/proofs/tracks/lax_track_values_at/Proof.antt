@@ -1,11 +1,23 @@
--- `lax_track_values_at` meets its contract, refusal by refusal. Assumes nothing.
-use mathlib.Core.Path.{sym, _∙_}
-use native.Mathlib.Omega.{arith}
+-- `lax_track_values_at` meets its contract, by its outcome. Assumes nothing.
 use borrow.Author.Needs.{needs}
+use mathlib.Core.Path.{_≡_, sym, _∙_}
 use denote.Ref.{now}
-use Rattle.capi.proofs.Tracked.{parts, stopped-values, values-none, values-short, values-is}
+use lib.ListN.{length}
+use Rattle.keyframe.specs.Refusing.{fillOutcome}
+use Rattle.keyframe.proofs.Refusals.{fill-fits}
+use Rattle.words.specs.Lent.{wordAt}
+use Rattle.track_words.specs.Checking.{checkOf}
+use Rattle.capi.proofs.Tracked.{parts, stopped-values, values-not, values-is}
 use Rattle.capi.proofs.tracks.lax_track_values_at.Statement.{statement}
 use Rattle.capi.proofs.tracks.lax_track_values_at.Tie as tie
+
+fine : (c : tie.Else1) → checkOf (now (c .before .before .before .before .args .w)) ≡ 0
+fine c = sym (c .before .check .ensures) ∙ c .if1 .left
+
+outcome : (c : tie.After-fill-outcome)
+    → let a = c .before .before .before .before .before .before .args in
+    c .fill-outcome .result ≡ fillOutcome (wordAt (now (a .w)) 512) (length (now (a .times))) (length (now (a .out)))
+outcome c = rw (c .before .count .ensures) at (c .fill-outcome .ensures)
 
 pub lax-track-values-at-spec : {M : Type 1} → statement M
 lax-track-values-at-spec =
@@ -17,15 +29,20 @@ lax-track-values-at-spec =
     parts _ _ _ _ (stopped-values (now (a .w)) _ (c .before .check .ensures) (c .if1 .taken) (now (a .times)) (now (a .out)) (now (a .filled))))
     (λ c κs. search needs)
     (λ c κs. search needs)
-    (λ c.
-    let a = c .before .before .before .before .before .before .before .args in
-    parts _ _ _ _ (rw (c .number .ensures) (values-none (now (a .w)) (sym (c .before .before .before .before .check .ensures) ∙ c .before .before .before .if1 .left) (now (a .times)) (now (a .out)) (now (a .filled)) (sym (c .before .before .count .ensures) ∙ c .before .if2 .taken))))
+    (λ c. search needs)
     (λ c κs. search needs)
     (λ c.
-    let a = c .before .before .before .before .before .before .before .before .args in
-    parts _ _ _ _ (rw (c .number2 .ensures) (values-short (now (a .w)) (sym (c .before .before .before .before .before .check .ensures) ∙ c .before .before .before .before .if1 .left) (now (a .times)) (now (a .out)) (now (a .filled)) (omega (arith, c .before .before .before .count .ensures, c .before .before .if2 .left)) (c .before .if3 .taken))))
-    (λ c κs. search needs)
+    let o = c .before .before .before .before in
+    let a = o .before .before .before .before .before .before .args in
+    parts _ _ _ _ (rw (c .number .ensures) (values-not (now (a .w)) (fine (o .before .before)) (now (a .times)) (now (a .out)) (now (a .filled)) _ (sym (c .before .before .outcome .given .1) ∙ outcome o))))
+    (λ c. search needs)
+    (λ c κs.
+    let o = c .before .before .before in
+    let f = fill-fits _ _ _ (sym (c .before .enum-told .given .1) ∙ outcome o) in
+    (fine (o .before .before), f .0, f .1))
     (λ c. search needs)
     (λ c.
-    let a = c .before .before .before .before .before .before .before .before .before .before .before .before .args in
-    parts _ _ _ _ (rw (c .before .before .before .fill .ensures .0, c .before .before .before .fill .ensures .1) (values-is (now (a .w)) (sym (c .before .before .before .before .before .before .before .before .before .check .ensures) ∙ c .before .before .before .before .before .before .before .before .if1 .left) (now (a .times)) (now (a .out)) (now (a .filled)) (omega (arith, c .before .before .before .before .before .before .before .count .ensures, c .before .before .before .before .before .before .if2 .left)) (c .before .before .before .before .before .if3 .left)))))
+    let f = c .before .before .before in
+    let o = f .before .before .before .before in
+    let a = o .before .before .before .before .before .before .args in
+    parts _ _ _ _ (rw (f .fill .ensures .0, f .fill .ensures .1) (values-is (now (a .w)) (fine (o .before .before)) (now (a .times)) (now (a .out)) (now (a .filled)) (sym (f .before .before .enum-told .given .1) ∙ outcome o)))))

@@ -35,13 +35,16 @@ check-spec =
     (λ c κs. search needs)
     (λ c κs. search needs)
     (λ c κs. search needs)
+    (λ c κs. search needs)
     (λ c.
-    let j = c .before .before .before .before in
+    let b = c .before in
+    let j = b .before .before .before .before in
     let ws = now (j .before .before .before .args .w) in
     let e = count (j .before) in
-    let k = rw (c .before .before .before .places .ensures .1, e) at (c .before .before .kinds-known .ensures) in
-    let known : knownKinds (take (placesIn (wordAt ws 512)) (trackIn ws .frames)) && isMode (wordAt ws 514) ≡ true = rw (← k, ← c .before .word-at2 .ensures) (c .if3 .taken) in
-    ⊎-elim (λ h. frame-breaks ws known (omega (arith, e, h .0 .taken)) (rw e at (sym (h .1 .ensures) ∙ h .2 .left))) (λ h. too-long ws known (omega (arith, e, h .left))) (j .if1 .came))
+    let k = rw (b .before .before .before .places .ensures .1, e) at (b .before .before .kinds-known .ensures) in
+    let known : knownKinds (take (placesIn (wordAt ws 512)) (trackIn ws .frames)) && isMode (wordAt ws 514) ≡ true = rw (← k, ← b .before .word-at2 .ensures) (b .if3 .taken) in
+    c .breaks-limit .ensures
+    ∙ ⊎-elim (λ h. frame-breaks ws known (omega (arith, e, h .0 .taken)) (rw e at (sym (h .1 .ensures) ∙ h .2 .left))) (λ h. too-long ws known (omega (arith, e, h .left))) (j .if1 .came))
     (λ c.
     let j = c .before .before .before .before in
     let ws = now (j .before .before .before .args .w) in

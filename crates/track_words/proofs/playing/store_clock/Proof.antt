@@ -1,11 +1,11 @@
 -- `store_clock` meets its contract, by what its callees ensure. Assumes nothing.
 use borrow.Author.Needs.{needs}
-use Rattle.track_words.specs.Reading.{clockWords}
+use Rattle.words.specs.Lent.{clockInto}
 use Rattle.track_words.proofs.playing.store_clock.Statement.{statement}
 use Rattle.track_words.proofs.playing.store_clock.Tie as tie
 
 pub store-clock-spec : {M : Type 1} → statement M
-unfolding clockWords
+unfolding clockInto
 store-clock-spec =
     tie.close
     (tie.spec

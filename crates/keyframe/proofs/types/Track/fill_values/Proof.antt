@@ -1,14 +1,14 @@
--- `fill_values` meets its contract, refusal by refusal. Assumes nothing.
+-- `fill_values` meets its contract, by its outcome. Assumes nothing.
 use borrow.Author.Needs.{needs}
-use mathlib.Core.Path.{_≡_, refl, _∙_}
+use mathlib.Core.Path.{_≡_, refl, sym, _∙_}
 use mathlib.Core.Bool.{true}
-use native.Mathlib.Omega.{arith}
 use denote.Ref.{now}
 use Rattle.math.proofs.Choice.{fails, passes}
-use Rattle.refusal.specs.declared.Refusal.the-variants.{RecordBreaksLimit, NoFrames, OutputTooShort}
+use Rattle.refusal.specs.declared.Refusal.the-variants.{RecordBreaksLimit}
 use Rattle.keyframe.specs.Limits.{withinOf}
 use Rattle.keyframe.proofs.Records.{few-frames, frames-fine}
-use Rattle.keyframe.proofs.Batches.{number-broken, number-none, number-short, number-taken, refused, accepted}
+use Rattle.keyframe.proofs.Refusals.{fill-by, fill-fits, fill-number}
+use Rattle.keyframe.proofs.Batches.{number-broken, refused, accepted}
 use Rattle.keyframe.proofs.types.Track.fill_values.Statement.{statement}
 use Rattle.keyframe.proofs.types.Track.fill_values.Tie as tie
 
@@ -26,22 +26,25 @@ fill-values-spec =
     let a = b .before .before .before .args in
     rw (c .none-filled .ensures) (refused (a .self) (now (a .times)) (now (a .out)) RecordBreaksLimit (number-broken _ _ _ (fails _ _ (b .is-within-limits .ensures) (c .before .if1 .taken))) refl))
     (λ c κs. search needs)
-    (λ c.
-    let b = c .before .before .before in
-    let a = b .before .before .before .before .args in
-    rw (c .none-filled2 .ensures) (refused (a .self) (now (a .times)) (now (a .out)) NoFrames (number-none _ _ _ (within b) (c .before .if2 .taken)) refl))
+    (λ c. search needs)
     (λ c κs. search needs)
     (λ c.
-    let b = c .before .before .before .before in
-    let a = b .before .before .before .before .args in
-    rw (c .none-filled3 .ensures) (refused (a .self) (now (a .times)) (now (a .out)) OutputTooShort (number-short _ _ _ (within b) (c .before .before .if2 .left) (c .before .if3 .taken)) refl))
+    let o = c .before .before .before .before in
+    let a = o .before .before .before .before .before .args in
+    let r = c .before .before .refusal .given .0 .0 in
+    let e = sym (c .before .before .refusal .given .1) ∙ o .fill-outcome .ensures in
+    rw (c .none-filled2 .ensures) (refused (a .self) (now (a .times)) (now (a .out)) r (fill-by (a .self) (within (o .before)) (now (a .times)) (now (a .out)) _ e) (fill-number _ _ _ r e)))
+    (λ c. search needs)
     (λ c κs.
-    let w = within (c .before .before .before .before .before) in
-    (frames-fine _ w, omega (arith, c .before .before .before .if2 .left), few-frames _ w, c .before .before .if3 .left))
+    let o = c .before .before .before .before in
+    let w = within (o .before) in
+    let f = fill-fits _ _ _ (sym (c .before .before .enum-told .given .1) ∙ o .fill-outcome .ensures) in
+    (frames-fine _ w, f .0, few-frames _ w, f .1))
     (λ c. search needs)
     (λ c.
-    let b = c .before .before .before .before .before .before .before .before in
-    let a = b .before .before .before .before .args in
+    let o = c .before .before .before .before .before .before .before in
+    let a = o .before .before .before .before .before .args in
     let f = c .before .before .fill .ensures in
-    let r = accepted (a .self) (now (a .times)) (now (a .out)) (number-taken _ _ _ (within b) (c .before .before .before .before .before .before .if2 .left) (c .before .before .before .before .before .if3 .left)) in
+    let e = sym (c .before .before .before .before .before .enum-told .given .1) ∙ o .fill-outcome .ensures in
+    let r = accepted (a .self) (now (a .times)) (now (a .out)) (fill-by (a .self) (within (o .before)) (now (a .times)) (now (a .out)) _ e) in
     (rw (f .1) (r .0), f .0 ∙ r .1)))

@@ -1,7 +1,7 @@
 -- `takes` meets its contract, by what its callees ensure. Assumes nothing.
 use borrow.Author.Needs.{needs}
-use Rattle.keyframe.proofs.pushes.takes.Statement.{statement}
-use Rattle.keyframe.proofs.pushes.takes.Tie as tie
+use Rattle.keyframe.proofs.refusing.takes.Statement.{statement}
+use Rattle.keyframe.proofs.refusing.takes.Tie as tie
 
 pub takes-spec : {M : Type 1} → statement M
 takes-spec =
