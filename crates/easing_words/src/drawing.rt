@@ -3,10 +3,10 @@ ghost use mathlib.Core.Path.{_≡_};
 ghost use Rattle.math.specs.Range.{Within};
 ghost use Rattle.math.specs.Rounded.{f32};
 ghost use Rattle.easing.specs.Params.{params, withinOf};
-ghost use Rattle.words.specs.Sampling.{plainKind};
 ghost use Rattle.easing_words.specs.Drawing.{drawOf, holdsOf, searchedOf};
 use bezier::Found;
 use math::of_bits;
+use words::is_plain;
 
 // Other: no plain kind.
 pub enum Drawn {
@@ -18,13 +18,6 @@ pub enum Drawn {
 pub enum Searched {
     At(Found),
     Other,
-}
-
-// A kind that has a curve and no parameters.
-pub fn is_plain(kind: u32) -> bool
-    ensures { λ r. ⌜ r ≡ plainKind kind ⌝ }
-{
-    (kind < 13) | (18 < kind) & (kind < 25) | (27 < kind) & (kind < 31)
 }
 
 // The curve of a plain kind.

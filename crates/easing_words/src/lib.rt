@@ -5,5 +5,4 @@ pub use drawing::Drawn;
 pub use drawing::Searched;
 pub use drawing::draw;
 pub use drawing::holds;
-pub use drawing::is_plain;
 pub use drawing::search;

@@ -11,3 +11,4 @@ pub mod Pushes
 pub mod Rows
 pub mod Sound
 pub mod Spliced
+pub mod Stamped

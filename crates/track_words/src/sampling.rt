@@ -4,7 +4,7 @@ ghost use mathlib.Core.Bool.{true};
 ghost use Prim.Native.Nat.{_+_, _-_, _<_, _≤_};
 ghost use lib.ListN.{take};
 ghost use Rattle.frames.specs.Inner.{counted, timesOf};
-ghost use Rattle.frames.specs.Limits.{framesWithin};
+ghost use Rattle.frames.specs.Limits.{framesWithin, isTime};
 ghost use Rattle.frames.specs.Sampling.{easedOf, betweenOf, sampleOf};
 ghost use Rattle.words.specs.Kinds.{easingFrom};
 ghost use Rattle.words.specs.Tracks.{easingIn};
@@ -19,16 +19,18 @@ use easing_words::Searched;
 use easing_words::draw;
 use easing_words::search;
 
-// How many of the first n times, the first and the last left out, are at or before t.
+// How many of the first n times, the first and the last left out, are at or before t. Times are
+// from +0 up, so their patterns are in their order.
 fn interval(w: &[u32; 518], n: usize, t: f32) -> usize
-    requires { ⌜ (1 ≤ n) × (n ≤ 64) ⌝ }
+    requires { ⌜ (framesWithin (take n (framesOf (now w))) ≡ true) × (1 ≤ n) × (n ≤ 64) × (isTime t ≡ true) ⌝ }
     ensures { λ r. ⌜ (r < 63) × (r ≡ counted (timesOf (framesOf (now (w .entry)))) t (n - 1)) ⌝ }
 {
     let last = n - 1;
+    let top = math::bits(t);
     let mut count: u32 = 0;
     let mut i: usize = 1;
     while i < last {
-        count += (float_at(w, 8 * i) <= t) as u32;
+        count += (word_at(w, 8 * i) <= top) as u32;
         i += 1;
     }
     count as usize

@@ -24,6 +24,7 @@ pub use modes::loop_of;
 pub use modes::state_word;
 pub use sampling::eased;
 pub use sampling::easing_fits;
+pub use sampling::is_plain;
 pub use tracks::FrameRead;
 pub use tracks::LaxKeyframe;
 pub use tracks::LaxTrack;

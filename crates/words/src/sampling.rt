@@ -11,7 +11,7 @@ use bezier::Found;
 use easing::Easing;
 
 // A kind that has a curve and no parameters.
-fn is_plain(kind: u32) -> bool
+pub fn is_plain(kind: u32) -> bool
     ensures { λ r. ⌜ r ≡ plainKind kind ⌝ }
 {
     (kind < 13) | (18 < kind) & (kind < 25) | (27 < kind) & (kind < 31)

@@ -1,4 +1,5 @@
--- `ease_in_out_back` meets its contract: each return is what the definition picks at the tests that led there. Assumes nothing.
+-- `ease_in_out_back` meets its contract, by what `square` and `halved` ensure. Assumes nothing.
+use mathlib.Core.Path.{_∙_}
 use borrow.Author.Needs.{needs}
 use Rattle.curves.proofs.back.ease_in_out_back.Statement.{statement}
 use Rattle.curves.proofs.back.ease_in_out_back.Tie as tie
@@ -9,5 +10,5 @@ ease-in-out-back-spec =
     (tie.spec
     (λ c κs. search needs)
     (λ c κs. search needs)
-    (λ c. simp (c .before .if1 .taken, c .square .ensures))
-    (λ c. simp (c .before .if1 .left, c .square2 .ensures)))
+    (λ c κs. search needs)
+    (λ c. c .halved .ensures ∙ rw (c .before .square2 .ensures, c .before .before .square .ensures)))

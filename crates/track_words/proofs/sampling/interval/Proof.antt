@@ -5,6 +5,7 @@ use native.Mathlib.Omega.{arith}
 use borrow.Author.Needs.{needs}
 use mir.Syntax.{w32}
 use mir.Val.{Fits}
+use denote.Floats.{passes}
 use denote.Ref.{now}
 use lib.ListN.{take, drop}
 use lib.Ieee.{Float, le}
@@ -14,14 +15,15 @@ use Rattle.frames.specs.Inner.{counted, timesOf}
 use Rattle.frames.proofs.Counts.{byte-fits, count-next, count-past, not-nan}
 use Rattle.track_words.specs.Reading.{framesOf}
 use Rattle.track_words.proofs.Placed.{time-at}
+use Rattle.track_words.proofs.Stamped.{before-test}
 use Rattle.track_words.proofs.sampling.interval.Statement.{statement}
 use Rattle.track_words.proofs.sampling.interval.Tie as tie
 
 abbrev Inv-loop : tie.InvT-loop
-Inv-loop w n t last count₀ i₀ count i = (count < i) × (i ≤ 63) × (count + countOf (λ (x : Float). le x t) (drop i (take last (timesOf (framesOf w)))) ≡ counted (timesOf (framesOf w)) t last)
+Inv-loop w n t last top count₀ i₀ count i = (count < i) × (i ≤ 63) × (count + countOf (λ (x : Float). le x t) (drop i (take last (timesOf (framesOf w)))) ≡ counted (timesOf (framesOf w)) t last)
 
 abbrev μ-loop : tie.MeasureT-loop
-μ-loop w n t last count₀ i₀ count i = last - i
+μ-loop w n t last top count₀ i₀ count i = last - i
 
 pub interval-spec : {M : Type 1} → statement M
 interval-spec =
@@ -30,6 +32,7 @@ interval-spec =
     Inv-loop
     μ-loop
     (λ c. search needs)
+    (λ c κs. search needs)
     (λ c. (omega arith, omega arith, omega arith))
     (λ c. search needs)
     (λ c κs. search needs)
@@ -39,12 +42,13 @@ interval-spec =
     (λ c. search needs)
     (λ c.
     let s = c .before .before in
-    let b = s .before in
+    let b = s .before .before in
     let ws = now (b .args .w) in
-    let step = rw (time-at ws (s .loop .i) (omega arith), ← c .float-at .ensures) at (count-next (λ (x : Float). le x (b .args .t)) (timesOf (framesOf ws)) (b .args .n - 1) (s .loop .i) (c .before .loop-test .taken) (λ _. not-nan (b .args .t))) in
+    let test = before-test ws (b .args .n) (b .pre .2) (b .pre .0) (s .loop .i) (omega arith) (omega arith) (b .args .t) (passes _ (b .good .1 .1 .0 .1)) (b .pre .3) in
+    let step = rw (time-at ws (s .loop .i) (omega arith), test, ← c .word-at .ensures, ← s .before .bits .ensures) at (count-next (λ (x : Float). le x (b .args .t)) (timesOf (framesOf ws)) (b .args .n - 1) (s .loop .i) (c .before .loop-test .taken) (λ _. not-nan (b .args .t))) in
     (search (needs, byte-below), omega arith, omega (arith, s .loop .inv .2, step)))
     (λ c. search needs)
     (λ c.
     let s = c .before in
-    let b = s .before in
+    let b = s .before .before in
     (omega arith, omega (arith, s .loop .inv .2, count-past (λ (x : Float). le x (b .args .t)) (timesOf (framesOf (now (b .args .w)))) (b .args .n - 1) (s .loop .i) (c .loop-test .left)))))
