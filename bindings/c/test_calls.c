@@ -49,32 +49,24 @@ static found_answer found_of(uint32_t number, lax_found place)
     return a;
 }
 
-found_answer easing_apply(lax_easing e, float t)
-{
-    lax_found place;
-    uint32_t number;
-    paint(&place, sizeof place);
-    number = lax_easing_apply(&e, t, &place);
-    return found_of(number, place);
-}
+/* A call that reads: its place is painted, and what was written is the answer. */
+#define READ(answer_of, type, call)  \
+    type place;                      \
+    uint32_t number;                 \
+    paint(&place, sizeof place);     \
+    number = call;                   \
+    return answer_of(number, place)
 
-flag_answer easing_eq(lax_easing x, lax_easing y)
-{
-    uint32_t place;
-    uint32_t number;
-    paint(&place, sizeof place);
-    number = lax_easing_eq(&x, &y, &place);
-    return flag_of(number, place);
-}
+/* A call that changes the record t, which is a part of the answer. */
+#define CHANGE(answer, record, call) \
+    answer a;                        \
+    a.record = t;                    \
+    a.number = call;                 \
+    return a
 
-flag_answer easing_is_supplied(lax_easing e)
-{
-    uint32_t place;
-    uint32_t number;
-    paint(&place, sizeof place);
-    number = lax_easing_is_supplied(&e, &place);
-    return flag_of(number, place);
-}
+found_answer easing_apply(lax_easing e, float t) { READ(found_of, lax_found, lax_easing_apply(&e, t, &place)); }
+flag_answer easing_eq(lax_easing x, lax_easing y) { READ(flag_of, uint32_t, lax_easing_eq(&x, &y, &place)); }
+flag_answer easing_is_supplied(lax_easing e) { READ(flag_of, uint32_t, lax_easing_is_supplied(&e, &place)); }
 
 easing_answer easing_named(uint32_t place)
 {
@@ -95,41 +87,10 @@ lax_tween tween_new(float start, float end)
     return t;
 }
 
-found_answer tween_value(lax_tween t)
-{
-    lax_found place;
-    uint32_t number;
-    paint(&place, sizeof place);
-    number = lax_tween_value(&t, &place);
-    return found_of(number, place);
-}
-
-value_answer tween_progress(lax_tween t)
-{
-    float place;
-    uint32_t number;
-    paint(&place, sizeof place);
-    number = lax_tween_progress(&t, &place);
-    return value_of(number, place);
-}
-
-found_answer tween_eased_progress(lax_tween t)
-{
-    lax_found place;
-    uint32_t number;
-    paint(&place, sizeof place);
-    number = lax_tween_eased_progress(&t, &place);
-    return found_of(number, place);
-}
-
-value_answer tween_playback_duration(lax_tween t)
-{
-    float place;
-    uint32_t number;
-    paint(&place, sizeof place);
-    number = lax_tween_playback_duration(&t, &place);
-    return value_of(number, place);
-}
+found_answer tween_value(lax_tween t) { READ(found_of, lax_found, lax_tween_value(&t, &place)); }
+value_answer tween_progress(lax_tween t) { READ(value_of, float, lax_tween_progress(&t, &place)); }
+found_answer tween_eased_progress(lax_tween t) { READ(found_of, lax_found, lax_tween_eased_progress(&t, &place)); }
+value_answer tween_playback_duration(lax_tween t) { READ(value_of, float, lax_tween_playback_duration(&t, &place)); }
 
 snapshot_answer tween_snapshot(lax_tween t)
 {
@@ -147,45 +108,16 @@ snapshot_answer tween_snapshot(lax_tween t)
     return a;
 }
 
-changed_answer tween_reset(lax_tween t)
-{
-    changed_answer a;
-    a.tween = t;
-    a.number = lax_tween_reset(&a.tween);
-    return a;
-}
+changed_answer tween_reset(lax_tween t) { CHANGE(changed_answer, tween, lax_tween_reset(&a.tween)); }
 
 changed_answer tween_seek(lax_tween t, float progress)
 {
-    changed_answer a;
-    a.tween = t;
-    a.number = lax_tween_seek(&a.tween, progress);
-    return a;
+    CHANGE(changed_answer, tween, lax_tween_seek(&a.tween, progress));
 }
 
-changed_answer tween_reverse(lax_tween t)
-{
-    changed_answer a;
-    a.tween = t;
-    a.number = lax_tween_reverse(&a.tween);
-    return a;
-}
-
-changed_answer tween_pause(lax_tween t)
-{
-    changed_answer a;
-    a.tween = t;
-    a.number = lax_tween_pause(&a.tween);
-    return a;
-}
-
-changed_answer tween_resume(lax_tween t)
-{
-    changed_answer a;
-    a.tween = t;
-    a.number = lax_tween_resume(&a.tween);
-    return a;
-}
+changed_answer tween_reverse(lax_tween t) { CHANGE(changed_answer, tween, lax_tween_reverse(&a.tween)); }
+changed_answer tween_pause(lax_tween t) { CHANGE(changed_answer, tween, lax_tween_pause(&a.tween)); }
+changed_answer tween_resume(lax_tween t) { CHANGE(changed_answer, tween, lax_tween_resume(&a.tween)); }
 
 updated_answer tween_update(lax_tween t, float step)
 {
@@ -229,50 +161,29 @@ lax_track track_new(void)
 
 track_changed_answer track_push(lax_track t, float time, float value)
 {
-    track_changed_answer a;
-    a.track = t;
-    a.number = lax_track_push(&a.track, time, value);
-    return a;
+    CHANGE(track_changed_answer, track, lax_track_push(&a.track, time, value));
 }
 
 track_changed_answer track_push_eased(lax_track t, float time, float value, lax_easing e)
 {
-    track_changed_answer a;
-    a.track = t;
-    a.number = lax_track_push_eased(&a.track, time, value, &e);
-    return a;
+    CHANGE(track_changed_answer, track, lax_track_push_eased(&a.track, time, value, &e));
 }
 
 track_changed_answer track_push_frame(lax_track t, lax_keyframe frame)
 {
-    track_changed_answer a;
-    a.track = t;
-    a.number = lax_track_push_frame(&a.track, &frame);
-    return a;
+    CHANGE(track_changed_answer, track, lax_track_push_frame(&a.track, &frame));
 }
 
 track_changed_answer track_looping(lax_track t, lax_loop mode)
 {
-    track_changed_answer a;
-    a.track = t;
-    a.number = lax_track_looping(&a.track, &mode);
-    return a;
+    CHANGE(track_changed_answer, track, lax_track_looping(&a.track, &mode));
 }
 
-track_changed_answer track_reset(lax_track t)
-{
-    track_changed_answer a;
-    a.track = t;
-    a.number = lax_track_reset(&a.track);
-    return a;
-}
+track_changed_answer track_reset(lax_track t) { CHANGE(track_changed_answer, track, lax_track_reset(&a.track)); }
 
 track_changed_answer track_seek_to(lax_track t, float progress)
 {
-    track_changed_answer a;
-    a.track = t;
-    a.number = lax_track_seek_to(&a.track, progress);
-    return a;
+    CHANGE(track_changed_answer, track, lax_track_seek_to(&a.track, progress));
 }
 
 track_updated_answer track_update(lax_track t, float step)
@@ -288,66 +199,15 @@ track_updated_answer track_update(lax_track t, float step)
 
 found_answer track_value_at(lax_track t, float secs)
 {
-    lax_found place;
-    uint32_t number;
-    paint(&place, sizeof place);
-    number = lax_track_value_at(&t, secs, &place);
-    return found_of(number, place);
+    READ(found_of, lax_found, lax_track_value_at(&t, secs, &place));
 }
 
-found_answer track_value(lax_track t)
-{
-    lax_found place;
-    uint32_t number;
-    paint(&place, sizeof place);
-    number = lax_track_value(&t, &place);
-    return found_of(number, place);
-}
-
-value_answer track_active_time(lax_track t)
-{
-    float place;
-    uint32_t number;
-    paint(&place, sizeof place);
-    number = lax_track_active_time(&t, &place);
-    return value_of(number, place);
-}
-
-value_answer track_duration(lax_track t)
-{
-    float place;
-    uint32_t number;
-    paint(&place, sizeof place);
-    number = lax_track_duration(&t, &place);
-    return value_of(number, place);
-}
-
-value_answer track_playback_duration(lax_track t)
-{
-    float place;
-    uint32_t number;
-    paint(&place, sizeof place);
-    number = lax_track_playback_duration(&t, &place);
-    return value_of(number, place);
-}
-
-value_answer track_progress(lax_track t)
-{
-    float place;
-    uint32_t number;
-    paint(&place, sizeof place);
-    number = lax_track_progress(&t, &place);
-    return value_of(number, place);
-}
-
-flag_answer track_is_complete(lax_track t)
-{
-    uint32_t place;
-    uint32_t number;
-    paint(&place, sizeof place);
-    number = lax_track_is_complete(&t, &place);
-    return flag_of(number, place);
-}
+found_answer track_value(lax_track t) { READ(found_of, lax_found, lax_track_value(&t, &place)); }
+value_answer track_active_time(lax_track t) { READ(value_of, float, lax_track_active_time(&t, &place)); }
+value_answer track_duration(lax_track t) { READ(value_of, float, lax_track_duration(&t, &place)); }
+value_answer track_playback_duration(lax_track t) { READ(value_of, float, lax_track_playback_duration(&t, &place)); }
+value_answer track_progress(lax_track t) { READ(value_of, float, lax_track_progress(&t, &place)); }
+flag_answer track_is_complete(lax_track t) { READ(flag_of, uint32_t, lax_track_is_complete(&t, &place)); }
 
 filled_answer track_values_at(lax_track t, const float *times, uint64_t times_len, float *out, uint64_t out_len)
 {
