@@ -12,7 +12,7 @@ use lib.Ieee.Bits.{is-true, toBits-lt}
 use borrow.Author.Tests.{leb-true, leb-false}
 use denote.Floats.{passes as holds}
 use Rattle.math.specs.Bits.{bitsOf}
-use Rattle.math.specs.Range.{isValue, maxZeroOf}
+use Rattle.math.specs.Range.{Within, isValue, maxZeroOf}
 use Rattle.math.specs.Rounded.{f32, zeroF, topF}
 use Rattle.math.proofs.Choice.{by-test}
 use Rattle.math.proofs.Order.{le-numbers, lt-le, le-chain, lt-of-not-le}
@@ -21,10 +21,11 @@ use Rattle.math.proofs.Patterns.{float-back}
 use Rattle.frames.specs.declared.frame.Keyframe.{Keyframe}
 use Rattle.frames.specs.Inner.{counted, timesOf}
 use Rattle.frames.specs.Limits.{beforeAll, frameWithin, framesWithin, isTime, noFrame}
-use Rattle.frames.specs.Sampling.{cutOf}
-use Rattle.frames.proofs.Clocks.{later-time}
+use Rattle.frames.specs.Sampling.{cutOf, localProgress}
+use Rattle.frames.proofs.Clocks.{later-time, time-clock}
 use Rattle.frames.proofs.Counts.{count-most}
 use Rattle.frames.proofs.Rising.{each-fine, time-fine, time-number, time-top, value-fine}
+use Rattle.frames.proofs.Samples.{local-within}
 use Rattle.frames.proofs.Stamps.{time-test}
 use Rattle.words.specs.Lent.{wordAt, floatAt, frameAt}
 use Rattle.words.specs.Tracks.{frameFrom}
@@ -53,6 +54,11 @@ module _ (words : List ℕ) (i : ℕ) (fine : frameWithin (frameIn words i) ≡ 
   pub value-real : isNan (floatAt words (8 * i + 1)) ≡ false
   unfolding frameIn frameFrom frameAt
   value-real = value-number (floatAt words (8 * i + 1)) (value-fine (frameIn words i) fine)
+
+-- how far a time is between two frames
+pub along-within : (words : List ℕ) (i j : ℕ) → frameWithin (frameIn words i) ≡ true → frameWithin (frameIn words j) ≡ true → (t : Float) → isTime t ≡ true → Within (localProgress (floatAt words (8 * i)) (floatAt words (8 * j)) t)
+unfolding frameIn frameFrom frameAt
+along-within words i j f g t s = local-within t _ _ (time-clock t s) (time-clock _ (time-fine (frameIn words i) f)) (time-clock _ (time-fine (frameIn words j) g))
 
 -- a time that is cut at another
 cut-time : (secs last : Float) → isTime last ≡ true → isTime (cutOf (maxZeroOf secs) last) ≡ true

@@ -4,6 +4,7 @@ ghost use mathlib.Core.Bool.{true, false};
 ghost use Prim.Native.Nat.{_+_, _-_, _<_, _≤_};
 ghost use lib.ListN.{take};
 ghost use lib.Ieee.{isNan};
+ghost use Rattle.math.specs.Range.{Within};
 ghost use Rattle.frames.specs.Inner.{counted, timesOf};
 ghost use Rattle.frames.specs.Limits.{frameWithin, framesWithin, isTime};
 ghost use Rattle.frames.specs.Sampling.{easedOf, betweenOf, sampleOf};
@@ -46,29 +47,25 @@ fn interval(w: &[u32; 518], n: usize, t: f32) -> usize
 
 // A curve that needs no easing is drawn by its kind's number.
 fn eased(w: &[u32; 518], at: usize, p: f32) -> Found
-    requires { ⌜ at ≤ 506 ⌝ }
+    requires { ⌜ (at ≤ 506) × Within p ⌝ }
     ensures { λ r. ⌜ r ≡ easedOf (easingIn (easingFrom (easingAt (now (w .entry)) at))) p ⌝ }
 {
-    if math::is_nan(p) {
-        return words::eased(easing_at(w, at), p);
-    }
-    let u = math::clamp01(p);
     let kind = word_at(w, at);
-    if let Drawn::At(v) = draw(kind, u) {
+    if let Drawn::At(v) = draw(kind, p) {
         return Found::plain(v);
     }
     let a = word_at(w, at + 1);
     let b = word_at(w, at + 2);
     let c = word_at(w, at + 3);
     let d = word_at(w, at + 4);
-    if let Searched::At(found) = search(kind, a, b, c, d, u) {
+    if let Searched::At(found) = search(kind, a, b, c, d, p) {
         return found;
     }
     words::eased(easing_at(w, at), p)
 }
 
 fn between(w: &[u32; 518], low: usize, t: f32) -> Found
-    requires { ⌜ (low < 63) × (frameWithin (frameIn (now w) low) ≡ true) × (frameWithin (frameIn (now w) (low + 1)) ≡ true) ⌝ }
+    requires { let f = frameIn (now w) in ⌜ (low < 63) × (isTime t ≡ true) × (frameWithin (f low) ≡ true) × (frameWithin (f (low + 1)) ≡ true) ⌝ }
     ensures { λ r. ⌜ r ≡ betweenOf (frameIn (now (w .entry)) low) (frameIn (now (w .entry)) (low + 1)) t ⌝ }
 {
     let at = 8 * low;

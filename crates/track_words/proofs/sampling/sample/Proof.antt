@@ -69,7 +69,7 @@ sample-spec =
     let time = sampled ws n (s .pre .2) (s .pre .0) (s .pre .1) _ _ _ _ (b .before .max-zero .ensures) (b .before .before .number-at .ensures) (b .cut .ensures) in
     let last = inside ws n (s .pre .2) (s .pre .0) (s .pre .1) (b .cut .result) time (rw (← c .before .before .before .number-at2 .ensures) (c .before .before .if1 .left)) (rw (← b .before .before .number-at .ensures) (c .before .if2 .left)) in
     let m : low + 1 < n = omega (arith, last, c .interval .ensures .1) in
-    (c .interval .ensures .0, frame-in ws n (s .pre .2) (s .pre .0) low (omega (arith, m)), frame-in ws n (s .pre .2) (s .pre .0) (low + 1) m))
+    (c .interval .ensures .0, time, frame-in ws n (s .pre .2) (s .pre .0) low (omega (arith, m)), frame-in ws n (s .pre .2) (s .pre .0) (low + 1) m))
     (λ c.
     let b = c .before .before .before .before .before in
     let s = b .before .before .before in
