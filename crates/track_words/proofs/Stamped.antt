@@ -1,4 +1,4 @@
--- The times of frames within their limits, and times among them: their patterns are in their order. Assumes nothing.
+-- What frames within their limits say of their words: no NaN stands there, and the patterns of their times are in the times' order. What is sampled is a time like theirs. Assumes nothing.
 use Prim.Native.Nat.{ℕ, _+_, _-_, _*_, _<_, _≤_}
 use native.Mathlib.Omega.{arith}
 use mathlib.Core.Path.{_≡_, refl, sym, _∙_}
@@ -90,8 +90,8 @@ module _ (words : List ℕ) (n : ℕ) (most : n ≤ 64) (fine : framesWithin (ta
       let ts = timesOf (framesOf words) in
       let long : length ts ≡ 64 = length-map (framesOf words) (λ (k : Keyframe). k .time) ∙ frames-long words in
       let front : length (take (n - 1) ts) ≡ n - 1 = length-take-le (n - 1) ts (omega (arith, long)) in
-      let most = count-most (λ (x : Float). le x t) (drop 1 (take (n - 1) ts)) in
-      omega (arith, most, length-drop 1 (take (n - 1) ts), front, two (leb n 1) refl)
+      let few = count-most (λ (x : Float). le x t) (drop 1 (take (n - 1) ts)) in
+      omega (arith, few, length-drop 1 (take (n - 1) ts), front, two (leb n 1) refl)
     where
       begun : le (floatAt words 0) t ≡ true
       begun = is-true _ (lt-le (floatAt words 0) t (lt-of-not-le t (floatAt words 0) (time-number t s) (time-number (floatAt words 0) (time-in 0 (omega arith))) a))
