@@ -35,7 +35,7 @@ use Rattle.keyframe.specs.Batch.{batchNumber}
 use Rattle.keyframe.specs.Stepping.{soughtOf, seekToOf}
 use Rattle.keyframe.specs.Refusing.{takesAt, pushOutcome, roomOutcome, loopingOutcome, sampleOutcome, fillOutcome, seekOutcome}
 
--- the answer of a call that is refused, or else is `next`
+-- what a call answers by its outcome: `next` where it is done
 abbrev pub changedBy : Track → Changed → Outcome → Changed
 changedBy t next Done = next
 changedBy t next (Refused r) = refused t r
