@@ -1,9 +1,7 @@
 // The back curves, which overshoot.
 ghost use mathlib.Core.Path.{_≡_};
-ghost use mathlib.Core.Bool.{cond};
-ghost use lib.Ieee.{lt};
-ghost use Rattle.math.specs.Rounded.{_⊘_, halfF, twoF};
 ghost use Rattle.curves.specs.Back.{inBack, outBack, inOutBack};
+use crate::powers::by_half;
 use crate::powers::square;
 
 const BACK_C1: f32 = 1.701_58;
@@ -25,20 +23,12 @@ pub fn ease_out_back(t: f32) -> f32
     1.0 + BACK_C3 * u * u * u + BACK_C1 * u * u
 }
 
-// Half of `below` for a t below a half, and else of `above`. Both are worked out before the test: a
-// branch would be guessed wrong at every other random t.
-fn halved(t: f32, below: f32, above: f32) -> f32
-    ensures { λ r. ⌜ r ≡ cond (lt t halfF) (below ⊘ twoF) (above ⊘ twoF) ⌝ }
-{
-    if t < 0.5 { below / 2.0 } else { above / 2.0 }
-}
-
 pub fn ease_in_out_back(t: f32) -> f32
     ensures { λ r. ⌜ r ≡ inOutBack t ⌝ }
 {
-    halved(
+    by_half(
         t,
-        square(2.0 * t) * ((BACK_C2 + 1.0) * 2.0 * t - BACK_C2),
-        square(2.0 * t - 2.0) * ((BACK_C2 + 1.0) * (2.0 * t - 2.0) + BACK_C2) + 2.0,
+        square(2.0 * t) * ((BACK_C2 + 1.0) * 2.0 * t - BACK_C2) / 2.0,
+        (square(2.0 * t - 2.0) * ((BACK_C2 + 1.0) * (2.0 * t - 2.0) + BACK_C2) + 2.0) / 2.0,
     )
 }

@@ -37,7 +37,7 @@ fn fifth(x: f32) -> f32
 
 // `below` for a t below a half, and else `above`. Both are worked out before the test: a branch
 // would be guessed wrong at every other random t.
-fn by_half(t: f32, below: f32, above: f32) -> f32
+pub fn by_half(t: f32, below: f32, above: f32) -> f32
     ensures { λ r. ⌜ r ≡ cond (lt t halfF) below above ⌝ }
 {
     if t < 0.5 { below } else { above }

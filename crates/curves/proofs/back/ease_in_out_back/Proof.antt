@@ -1,4 +1,4 @@
--- `ease_in_out_back` meets its contract, by what `square` and `halved` ensure. Assumes nothing.
+-- `ease_in_out_back` meets its contract, by what `square` and `by_half` ensure. Assumes nothing.
 use mathlib.Core.Path.{_∙_}
 use borrow.Author.Needs.{needs}
 use Rattle.curves.proofs.back.ease_in_out_back.Statement.{statement}
@@ -11,4 +11,4 @@ ease-in-out-back-spec =
     (λ c κs. search needs)
     (λ c κs. search needs)
     (λ c κs. search needs)
-    (λ c. c .halved .ensures ∙ rw (c .before .square2 .ensures, c .before .before .square .ensures)))
+    (λ c. c .by-half .ensures ∙ rw (c .before .square2 .ensures, c .before .before .square .ensures)))
