@@ -44,6 +44,15 @@ static void is_refused(float nan)
     CHECK(log_record(log, sizeof log, log_head(log, sizeof log).written, step).number == LAX_STEP_BELOW_ZERO);
 }
 
+/* A new tween has the one that every NaN is written as, and breaks a limit. */
+static void is_written(float nan)
+{
+    const lax_tween t = tween_new(nan, nan);
+    const uint32_t quiet = 0x7fc00000;
+    CHECK(memcmp(&t.start, &quiet, sizeof quiet) == 0 && memcmp(&t.end, &quiet, sizeof quiet) == 0);
+    CHECK(tween_reset(t).number == LAX_RECORD_BREAKS_LIMIT);
+}
+
 /* A float of a record, and so the record. */
 static void breaks(uint32_t nan)
 {
@@ -73,6 +82,7 @@ void test_nans(void)
     for (k = 0; k < sizeof nans / sizeof *nans; k++) {
         is_none(pattern(nans[k]));
         is_refused(pattern(nans[k]));
+        is_written(pattern(nans[k]));
         breaks(nans[k]);
     }
 }
