@@ -18,13 +18,21 @@ use crate::reading::word_at;
 use refusal::Refusal;
 use words::UNKNOWN_WORD;
 
-// The first 13 kinds have no parameters: the commonest are told by one test.
+// The first 13 kinds have no parameters: the commonest are told by one test, and CubicBezier with no
+// easing built.
 fn easing_fits(w: &[u32; 518], at: usize) -> bool
     requires { ⌜ at ≤ 506 ⌝ }
     ensures { λ r. ⌜ r ≡ easingFits (easingAt (now (w .entry)) at) ⌝ }
 {
     let kind = word_at(w, at);
     if kind < 13 {
+        return true;
+    }
+    let a = word_at(w, at + 1);
+    let b = word_at(w, at + 2);
+    let c = word_at(w, at + 3);
+    let d = word_at(w, at + 4);
+    if easing_words::holds(kind, a, b, c, d) {
         return true;
     }
     words::easing_fits(easing_at(w, at))
