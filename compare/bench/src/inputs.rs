@@ -5,6 +5,9 @@ use crate::rules::{FOREVER, RUNNING};
 use crate::words::{LaxEvent, LaxKeyframe, LaxLoop, LaxTrack, LaxTween, UpdatedPlace};
 use oracle::Easing;
 
+/// So many different ones that no branch is learnt by heart; 8,000 times are, by some processors.
+pub const MANY: usize = 100_000;
+
 struct Chance(u64);
 
 impl Chance {

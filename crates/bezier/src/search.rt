@@ -19,11 +19,11 @@ fn newton_turn(x1: f32, x2: f32, t: f32, u: f32) -> Turn
     ensures { λ r. ⌜ r ≡ turnOf x1 x2 t u ⌝ }
 {
     let x = sample_cubic(x1, x2, u) - t;
-    if math::size(x) < TOLERANCE {
+    if math::is_below(x, TOLERANCE) {
         return Turn::Near;
     }
     let derivative = sample_cubic_derivative(x1, x2, u);
-    if math::size(derivative) < FLAT {
+    if math::is_below(derivative, FLAT) {
         return Turn::Flat;
     }
     Turn::Next(math::clamp01(u - x / derivative))
@@ -64,7 +64,7 @@ fn bisect(x1: f32, x2: f32, t: f32, from: f32, steps: u8) -> Solved
     for k in 0..10u32 {
         let u = s.u;
         let x = sample_cubic(x1, x2, u);
-        if math::size(x - t) < TOLERANCE {
+        if math::is_below(x - t, TOLERANCE) {
             return Solved {
                 u,
                 settled: true,

@@ -1,13 +1,15 @@
 -- What a test says of a float's form. Assumes nothing.
 use mathlib.Core.Path.{_≡_, refl, sym, ap, _∙_}
-use mathlib.Core.Bool.{true, false, and-true, _&&_, _||_, true≢false, false≢true}
-use Prim.Native.Nat.{ℕ, _+_, _*_, _≤_}
-use native.Mathlib.Nat.{zero-mul}
+use mathlib.Core.Bool.{Bool, true, false, and-true, _&&_, _||_, cond, true≢false, false≢true}
+use mathlib.Core.Logic.{⊎-elim}
+use Prim.Native.Nat.{ℕ, _+_, _*_, _<_, _≤_}
+use native.Mathlib.Nat.{zero-mul, zero-add, mul-pos, eq-zero-or-pos}
 use native.Mathlib.Omega.{arith}
-use borrow.Author.Tests.{ltb-true, ltb-false, eq-eqb}
+use borrow.Author.Tests.{ltb-true, ltb-false, le-ltb, eq-eqb}
 use lib.IntN.{ℤ, pos}
 use lib.Dec.{T, leb, ltb, eqb}
 use lib.Ieee.{Float, nan, inf, fin, Format, up, down, lt, le, eq, ne, neg, fits, isNan, ofBits}
+use lib.Ieee.Fits.{down-pos}
 use Rattle.math.specs.Rounded.{zeroF}
 use Rattle.math.specs.Range.{sizeOf, isFinite, isBetween}
 use Rattle.math.proofs.Fitting.{no-size}
@@ -72,6 +74,36 @@ size-above (inf true) h k = absurd (true≢false h)
 size-above (inf false) h k = refl
 size-above (fin false m e) h k = refl
 size-above (fin true m e) h k = absurd (not-less (m * up e * 1) (0 * 1 * down e) (none (down e)) h k)
+
+no-times : (a d : ℕ) → a ≡ 0 → a * d ≡ 0
+no-times a d z = ap (λ (b : ℕ). b * d) z ∙ zero-mul d
+
+-- -0 and +0 are below the same floats
+zeros-below : (m : ℕ) (e : ℤ) (y : Float) → m * up e ≡ 0 → lt (fin true m e) y ≡ lt (fin false m e) y
+unfolding lt
+zeros-below m e nan z = refl
+zeros-below m e (inf t) z = refl
+zeros-below m e (fin true n d) z = le-ltb (n * up d * down e) (m * up e * down d) (omega (arith, no-times (m * up e) (down d) z))
+zeros-below m e (fin false n d) z = rw (no-times (m * up e) (down d) z) (ap (ltb 0) (zero-add (n * up d * down e)))
+
+-- below y in size: the larger of x and -x is
+pub size-under : (x y : Float) → lt (cond (lt x (neg x)) (neg x) x) y ≡ lt (sizeOf x) y
+unfolding lt neg
+size-under nan y = refl
+size-under (inf true) y = refl
+size-under (inf false) y = refl
+size-under (fin false m e) y = refl
+size-under (fin true m e) y = go (ltb 0 (m * up e * down e + m * up e * down e)) refl
+  where
+    nothing : (a : ℕ) → a * down e + a * down e ≤ 0 → a ≡ 0
+    nothing a h = ⊎-elim (λ z. z) (λ p. absurd (crossed (mul-pos p (down-pos e)))) (eq-zero-or-pos a)
+      where
+        crossed : 0 < a * down e → ⊥
+        crossed p = omega arith
+
+    go : (b : Bool) → ltb 0 (m * up e * down e + m * up e * down e) ≡ b → lt (cond b (fin false m e) (fin true m e)) y ≡ lt (fin false m e) y
+    go true h = refl
+    go false h = zeros-below m e y (nothing (m * up e) (ltb-false 0 _ h))
 
 -- at most y in size: from -y to y
 pub size-between : (x : Float) (n : ℕ) (d : ℤ) → isBetween (fin true n d) (fin false n d) x ≡ le (sizeOf x) (fin false n d)

@@ -17,6 +17,7 @@ pub use pattern::of_bits;
 pub use range::EPSILON;
 pub use range::clamp;
 pub use range::clamp01;
+pub use range::is_below;
 pub use range::is_between;
 pub use range::is_value;
 pub use range::max_zero;

@@ -1,5 +1,7 @@
 // Keeping a float in a range.
 ghost use mathlib.Core.Path.{_≡_};
+ghost use mathlib.Core.Bool.{cond};
+ghost use lib.Ieee.{lt};
 ghost use Rattle.math.specs.Range.{clampOf, clamp01Of, maxZeroOf, sizeOf, isValue, isBetween};
 use crate::pattern::of_bits;
 
@@ -45,6 +47,21 @@ pub fn size(x: f32) -> f32
     } else {
         x
     }
+}
+
+// The larger of x and y, and x where one of them is a NaN.
+fn larger(x: f32, y: f32) -> f32
+    ensures { λ r. ⌜ r ≡ cond (lt x y) y x ⌝ }
+{
+    if x < y { y } else { x }
+}
+
+// Whether x is below a limit in size. The larger of two is an instruction of the processor; a branch by the
+// sign would be guessed wrong at every other random x.
+pub fn is_below(x: f32, limit: f32) -> bool
+    ensures { λ r. ⌜ r ≡ lt (sizeOf x) limit ⌝ }
+{
+    larger(x, -x) < limit
 }
 
 // From lo to hi; a NaN is not.

@@ -1,5 +1,6 @@
 use super::{BEZIER_BAR, Case, name_of};
 use crate::ffi::lax_easing_apply;
+use crate::inputs::MANY;
 use crate::meaning::easing_words;
 use crate::rules::is_one_of_twelve;
 use crate::side::Valued;
@@ -7,8 +8,6 @@ use crate::words::FoundPlace;
 use crate::{inputs, rust, side};
 use oracle::Easing;
 use std::hint::black_box;
-
-const PROGRESSES: usize = 1_024;
 
 const PLAIN_BAR: f64 = 2.5;
 
@@ -29,21 +28,21 @@ fn bar(easing: &Easing) -> Option<f64> {
 }
 
 fn apply(easing: &'static Easing) -> Case {
-    let progresses = inputs::below(1.0, PROGRESSES);
+    let progresses = inputs::below(1.0, MANY);
     let (words, same) = (easing_words(easing), progresses.clone());
     Case {
         name: format!("apply, {}", name_of(easing)),
         bar: bar(easing),
-        answers: PROGRESSES as f64,
+        answers: MANY as f64,
         size: 1,
-        ours: side::filling(PROGRESSES, move |answers| {
+        ours: side::filling(MANY, move |answers| {
             let (easing, mut out) = (black_box(&words), FoundPlace::default());
             for (answer, t) in answers.iter_mut().zip(&progresses) {
                 let number = lax_easing_apply(easing, *t, &mut out);
                 *answer = Valued { number, value: out.value };
             }
         }),
-        rust: side::filling(PROGRESSES, move |answers| {
+        rust: side::filling(MANY, move |answers| {
             let easing = black_box(easing);
             for (answer, t) in answers.iter_mut().zip(&same) {
                 *answer = rust::apply(easing, *t);

@@ -1,5 +1,6 @@
 use super::{BEZIER, Case, name_of};
 use crate::ffi::{lax_track_push, lax_track_update, lax_track_value_at, track_values_at};
+use crate::inputs::MANY;
 use crate::rules::{FOREVER, last_time};
 use crate::side::{Stepped, Valued};
 use crate::words::{CountedPlace, FoundPlace, LaxLoop, LaxTrack, PLACES};
@@ -9,9 +10,6 @@ use std::hint::black_box;
 
 /// In a batch, but where their number grows.
 const SAMPLES: usize = 1_000;
-
-/// In a pass, at least: so many different ones that no branch is learnt by heart. With 1,000 they are.
-const TIMES: usize = 8_000;
 
 pub fn cases() -> Vec<Case> {
     let (mut single, mut batches) = (Vec::new(), Vec::new());
@@ -60,21 +58,21 @@ fn batch_bar(easing: &Easing, frames: usize) -> Option<f64> {
 
 fn value_at(easing: &Easing, frames: usize) -> Case {
     let words = inputs::track(easing, frames);
-    let (track, times) = (meaning::track(&words), inputs::below(last_time(&words), TIMES));
+    let (track, times) = (meaning::track(&words), inputs::below(last_time(&words), MANY));
     let same = times.clone();
     Case {
         name: format!("value_at, {frames} frames, {}", name_of(easing)),
         bar: single_bar(easing, frames),
-        answers: TIMES as f64,
+        answers: MANY as f64,
         size: 1,
-        ours: side::filling(TIMES, move |answers| {
+        ours: side::filling(MANY, move |answers| {
             let (track, mut out) = (black_box(&words), FoundPlace::default());
             for (answer, time) in answers.iter_mut().zip(&times) {
                 let number = lax_track_value_at(track, *time, &mut out);
                 *answer = Valued { number, value: out.value };
             }
         }),
-        rust: side::filling(TIMES, move |answers| {
+        rust: side::filling(MANY, move |answers| {
             let track = black_box(&track);
             for (answer, time) in answers.iter_mut().zip(&same) {
                 *answer = rust::value_at(track, *time);
@@ -143,11 +141,11 @@ fn push() -> Case {
 /// A batch whose time is that of one sample.
 fn sampled(easing: &Easing, frames: usize) -> Case {
     let track = inputs::track(easing, frames);
-    let times = inputs::below(last_time(&track), TIMES);
+    let times = inputs::below(last_time(&track), MANY);
     Case {
         name: format!("batch of {SAMPLES}, {frames} frames, {}", name_of(easing)),
         bar: batch_bar(easing, frames),
-        answers: TIMES as f64,
+        answers: MANY as f64,
         ..batch(track, times, SAMPLES)
     }
 }
@@ -155,11 +153,11 @@ fn sampled(easing: &Easing, frames: usize) -> Case {
 /// The same with ascending times in each batch.
 fn in_order(easing: &Easing, frames: usize) -> Case {
     let track = inputs::track(easing, frames);
-    let mut times = inputs::below(last_time(&track), TIMES);
+    let mut times = inputs::below(last_time(&track), MANY);
     times.chunks_mut(SAMPLES).for_each(|batch| batch.sort_by(f32::total_cmp));
     Case {
         name: format!("batch of {SAMPLES} in order, {frames} frames, {}", name_of(easing)),
-        answers: TIMES as f64,
+        answers: MANY as f64,
         ..batch(track, times, SAMPLES)
     }
 }
@@ -188,7 +186,7 @@ fn batch(words: LaxTrack, times: Vec<f32>, samples: usize) -> Case {
 
 fn linear(frames: usize, samples: usize) -> Case {
     let track = inputs::track(&Easing::Linear, frames);
-    let times = inputs::below(last_time(&track), TIMES.next_multiple_of(samples));
+    let times = inputs::below(last_time(&track), MANY.next_multiple_of(samples));
     batch(track, times, samples)
 }
 

@@ -1,5 +1,6 @@
 use super::{BEZIER, BEZIER_BAR, Case, name_of};
 use crate::ffi::{lax_tween_update, lax_tween_value, tween_run};
+use crate::inputs::MANY;
 use crate::rules::{COMPLETED, FOREVER, IDLE, ONCE, PAUSED, PING_PONG, PING_PONG_TIMES, TIMES};
 use crate::side::{Stepped, Valued};
 use crate::words::{CountedPlace, FoundPlace, LaxTween, UpdatedPlace};
@@ -9,9 +10,6 @@ use std::hint::black_box;
 
 /// In a pass, each from the record that the one before handed back; the first from the same in every pass.
 const STEPS: usize = 1_000;
-
-/// Each with an elapsed of its own.
-const TWEENS: usize = 1_000;
 
 /// With at most one fold, with many, and in the states in which nothing is folded.
 const UPDATE_BAR: f64 = 2.5;
@@ -132,21 +130,21 @@ fn stepped(first: LaxTween, steps: Vec<f32>) -> Case {
 
 fn value(easing: &Easing) -> Case {
     let at = |elapsed: &f32| inputs::tween(easing, 1.0, *elapsed);
-    let words: Vec<LaxTween> = inputs::below(1.0, TWEENS).iter().map(at).collect();
+    let words: Vec<LaxTween> = inputs::below(1.0, MANY).iter().map(at).collect();
     let tweens: Vec<_> = words.iter().map(meaning::tween).collect();
     Case {
         name: format!("value, {}", name_of(easing)),
         bar: value_bar(easing),
-        answers: TWEENS as f64,
+        answers: MANY as f64,
         size: 1,
-        ours: side::filling(TWEENS, move |answers| {
+        ours: side::filling(MANY, move |answers| {
             let mut out = FoundPlace::default();
             for (answer, tween) in answers.iter_mut().zip(black_box(&words)) {
                 let number = lax_tween_value(tween, &mut out);
                 *answer = Valued { number, value: out.value };
             }
         }),
-        rust: side::filling(TWEENS, move |answers| {
+        rust: side::filling(MANY, move |answers| {
             for (answer, tween) in answers.iter_mut().zip(black_box(&tweens)) {
                 *answer = rust::value(tween);
             }
