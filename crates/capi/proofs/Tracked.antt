@@ -31,7 +31,7 @@ use Rattle.keyframe.specs.Playback.{activeOf, activeTimeOf, completeOf, doneOf,
 use Rattle.keyframe.specs.Pushing.{changed, loopingOf, pushOf, storedOf, takesOf, withMode}
 use Rattle.keyframe.specs.Sampling.{valueAtOf}
 use Rattle.keyframe.specs.Stepping.{resetOf, seekToOf, soughtOf, updateOf}
-use Rattle.keyframe.specs.Refusing.{fillOutcome, loopingOutcome, pushOutcome, roomOutcome, sampleOutcome, seekOutcome}
+use Rattle.keyframe.specs.Inner.{fillOutcome, loopingOutcome, pushOutcome, roomOutcome, sampleOutcome, seekOutcome}
 use Rattle.keyframe.proofs.Batches as batch
 use Rattle.keyframe.proofs.Refusals.{changedBy, fill-by, fill-number, looping-by, numberBy, push-by, push-taken, sample-by, sampledBy, seek-by}
 use Rattle.keyframe.proofs.Ticks.{sought-clock, update-ticked}

@@ -33,7 +33,7 @@ use Rattle.keyframe.specs.Pushing.{refused, changed, storedOf, takesOf, 
 use Rattle.keyframe.specs.Sampling.{valueAtOf}
 use Rattle.keyframe.specs.Batch.{batchNumber}
 use Rattle.keyframe.specs.Stepping.{soughtOf, seekToOf}
-use Rattle.keyframe.specs.Refusing.{takesAt, pushOutcome, roomOutcome, loopingOutcome, sampleOutcome, fillOutcome, seekOutcome}
+use Rattle.keyframe.specs.Inner.{takesAt, pushOutcome, roomOutcome, loopingOutcome, sampleOutcome, fillOutcome, seekOutcome}
 
 -- what a call answers by its outcome: `next` where it is done
 abbrev pub changedBy : Track → Changed → Outcome → Changed

@@ -5,6 +5,6 @@ pub mod Sampling
 pub mod Batch
 pub mod Stepping
 pub mod Clock
-pub mod Refusing
+pub mod Inner
 pub mod Promises
 pub mod Values

@@ -1,7 +1,7 @@
 // Why a call on a track within its limits is refused, by the parts that count. last is the last time.
 ghost use mathlib.Core.Path.{_≡_};
 ghost use Rattle.keyframe.specs.Pushing.{laterOf};
-ghost use Rattle.keyframe.specs.Refusing.{takesAt, pushOutcome, roomOutcome, loopingOutcome, sampleOutcome, fillOutcome, seekOutcome};
+ghost use Rattle.keyframe.specs.Inner.{takesAt, pushOutcome, roomOutcome, loopingOutcome, sampleOutcome, fillOutcome, seekOutcome};
 use crate::limits::mode_fits;
 use crate::types::Outcome;
 use easing::Easing;

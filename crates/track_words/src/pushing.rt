@@ -7,7 +7,7 @@ ghost use lib.Ieee.{eq};
 ghost use Rattle.math.specs.Rounded.{f32, zeroF};
 ghost use Rattle.frames.specs.Inner.{earlierOf};
 ghost use Rattle.keyframe.specs.Limits.{baseOf};
-ghost use Rattle.keyframe.specs.Refusing.{pushOutcome};
+ghost use Rattle.keyframe.specs.Inner.{pushOutcome};
 ghost use Rattle.track_words.specs.Checking.{checkOf};
 ghost use Rattle.track_words.specs.Inner.{raisedBy, rowInto};
 ghost use Rattle.track_words.specs.Pushing.{hasRoom, pushInto, storedRow};

@@ -3,7 +3,7 @@ use borrow.Author.Needs.{needs}
 use mathlib.Core.Path.{_≡_, sym, ap, _∙_}
 use denote.Ref.{now}
 use Rattle.keyframe.specs.Playback.{activeOf}
-use Rattle.keyframe.specs.Refusing.{sampleOutcome}
+use Rattle.keyframe.specs.Inner.{sampleOutcome}
 use Rattle.keyframe.proofs.Refusals.{sample-some}
 use Rattle.words.specs.Lent.{wordAt}
 use Rattle.track_words.specs.Checking.{checkOf}

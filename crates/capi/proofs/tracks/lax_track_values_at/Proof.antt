@@ -3,7 +3,7 @@ use borrow.Author.Needs.{needs}
 use mathlib.Core.Path.{_≡_, sym, _∙_}
 use denote.Ref.{now}
 use lib.ListN.{length}
-use Rattle.keyframe.specs.Refusing.{fillOutcome}
+use Rattle.keyframe.specs.Inner.{fillOutcome}
 use Rattle.keyframe.proofs.Refusals.{fill-fits}
 use Rattle.words.specs.Lent.{wordAt}
 use Rattle.track_words.specs.Checking.{checkOf}

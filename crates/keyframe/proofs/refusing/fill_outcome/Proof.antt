@@ -2,7 +2,7 @@
 use borrow.Author.Needs.{needs}
 use borrow.Author.Tests.{lt-ltb, le-leb, lt-leb}
 use mathlib.Core.Path.{sym, _∙_}
-use Rattle.keyframe.specs.Refusing.{fillOutcome}
+use Rattle.keyframe.specs.Inner.{fillOutcome}
 use Rattle.keyframe.proofs.Refusals.{fill-none, sample-some}
 use Rattle.keyframe.proofs.refusing.fill_outcome.Statement.{statement}
 use Rattle.keyframe.proofs.refusing.fill_outcome.Tie as tie

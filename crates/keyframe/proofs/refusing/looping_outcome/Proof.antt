@@ -1,7 +1,7 @@
 -- `looping_outcome` meets its contract, by what its callee ensures. Assumes nothing.
 use borrow.Author.Needs.{needs}
 use Rattle.math.proofs.Choice.{fails, passes}
-use Rattle.keyframe.specs.Refusing.{loopingOutcome}
+use Rattle.keyframe.specs.Inner.{loopingOutcome}
 use Rattle.keyframe.proofs.refusing.looping_outcome.Statement.{statement}
 use Rattle.keyframe.proofs.refusing.looping_outcome.Tie as tie
 

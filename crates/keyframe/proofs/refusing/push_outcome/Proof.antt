@@ -4,7 +4,7 @@ use mathlib.Core.Path.{_≡_}
 use mathlib.Core.Bool.{true}
 use Rattle.math.proofs.Choice.{fails, passes}
 use Rattle.easing.specs.Kinds.{suppliedOf}
-use Rattle.keyframe.specs.Refusing.{pushOutcome}
+use Rattle.keyframe.specs.Inner.{pushOutcome}
 use Rattle.keyframe.proofs.Changes.{fits-params}
 use Rattle.keyframe.proofs.refusing.push_outcome.Statement.{statement}
 use Rattle.keyframe.proofs.refusing.push_outcome.Tie as tie

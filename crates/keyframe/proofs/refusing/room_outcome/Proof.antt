@@ -1,5 +1,5 @@
 -- `room_outcome` meets its contract. Assumes nothing.
-use Rattle.keyframe.specs.Refusing.{roomOutcome}
+use Rattle.keyframe.specs.Inner.{roomOutcome}
 use Rattle.keyframe.proofs.refusing.room_outcome.Statement.{statement}
 use Rattle.keyframe.proofs.refusing.room_outcome.Tie as tie
 

@@ -1,7 +1,7 @@
 -- `sample_outcome` meets its contract. Assumes nothing.
 use native.Mathlib.Omega.{arith}
 use borrow.Author.Tests.{lt-ltb, le-ltb}
-use Rattle.keyframe.specs.Refusing.{sampleOutcome}
+use Rattle.keyframe.specs.Inner.{sampleOutcome}
 use Rattle.keyframe.proofs.refusing.sample_outcome.Statement.{statement}
 use Rattle.keyframe.proofs.refusing.sample_outcome.Tie as tie
 

@@ -1,7 +1,7 @@
 -- `seek_outcome` meets its contract, by what its callee ensures. Assumes nothing.
 use borrow.Author.Needs.{needs}
 use mathlib.Core.Path.{sym, _∙_}
-use Rattle.keyframe.specs.Refusing.{seekOutcome}
+use Rattle.keyframe.specs.Inner.{seekOutcome}
 use Rattle.keyframe.proofs.refusing.seek_outcome.Statement.{statement}
 use Rattle.keyframe.proofs.refusing.seek_outcome.Tie as tie
 

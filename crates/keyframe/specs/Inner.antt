@@ -1,4 +1,4 @@
--- Document 01, "Refusal numbers": why a call on a track within its limits is refused, by the parts that count. `last` is the last time.
+-- Why a call on a track within its limits is refused, by the parts that count, as the definitions of the calls have it; proofs/Refusals ties the two. `last` is the last time.
 use Prim.Native.Nat.{ℕ}
 use mathlib.Core.Bool.{Bool, _&&_}
 use lib.Dec.{leb, ltb}
