@@ -47,9 +47,7 @@ fn read(reached: LaxReplay, records: &[u8], gaps: &mut [u16]) -> LaxReplayed {
             }
         }
     }
-    if answer.done > 0 {
-        answer.reached.tween = meant(&answer.reached.tween);
-    }
+    answer.reached.tween = meant(&answer.reached.tween);
     answer
 }
 
