@@ -56,8 +56,8 @@ fn larger(x: f32, y: f32) -> f32
     if x < y { y } else { x }
 }
 
-// Whether x is below a limit in size. The larger of two is an instruction of the processor; a branch by the
-// sign would be guessed wrong at every other random x.
+// Whether x is below a limit in size. By the larger of x and -x, which takes no branch: one by the sign
+// would be guessed wrong at every other random x.
 pub fn is_below(x: f32, limit: f32) -> bool
     ensures { λ r. ⌜ r ≡ lt (sizeOf x) limit ⌝ }
 {

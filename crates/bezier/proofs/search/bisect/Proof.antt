@@ -19,7 +19,7 @@ near : tie.Need-returns Inv-loop μ-loop
 near c =
     counts (after (c .before .before .before .before .before .args .steps) (c .before .before .before .before .before .args .steps) (after (c .before .before .before .before .loop .k) 0 (after 1 0 (solvedAt true (c .before .before .before .before .loop .s .u))))) _ _
     (ap (after (c .before .before .before .before .before .args .steps) _)
-    (ap (after (c .before .before .before .before .loop .k) 0) (sym (bisect-near _ _ _ 10 _ _ (omega arith) (rw (← c .before .before .sample-cubic .ensures, ← c .before .is-below .ensures) (c .if1 .taken))))
+    (ap (after (c .before .before .before .before .loop .k) 0) (sym (bisect-near _ _ _ 10 _ _ (omega arith) (rw (← c .before .before .sample-cubic .ensures) (sym (c .before .is-below .ensures) ∙ c .if1 .taken))))
     ∙ c .before .before .before .before .loop .inv .1))
     (omega arith)
     (omega arith)
@@ -28,7 +28,7 @@ next : tie.Need-loop-again Inv-loop μ-loop
 next c = (
   search needs,
   after-both _ 0 1 0 _
-      ∙ ap (after (c .before .before .before .before .before .loop .k) 0) (sym (bisect-next _ _ _ 10 _ _ _ (omega arith) (rw (← c .before .before .before .sample-cubic .ensures, ← c .before .before .is-below .ensures) (c .before .if1 .left)) (rw (← c .before .before .before .sample-cubic .ensures) (c .cut .ensures))))
+      ∙ ap (after (c .before .before .before .before .before .loop .k) 0) (sym (bisect-next _ _ _ 10 _ _ _ (omega arith) (rw (← c .before .before .before .sample-cubic .ensures) (sym (c .before .before .is-below .ensures) ∙ c .before .if1 .left)) (rw (← c .before .before .before .sample-cubic .ensures) (c .cut .ensures))))
       ∙ c .before .before .before .before .before .loop .inv .1,
 )
 
