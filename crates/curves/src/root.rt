@@ -6,24 +6,68 @@ ghost use Rattle.math.specs.Range.{Within};
 ghost use Rattle.curves.specs.Root.{Encloses, sqrtOf};
 ghost use Rattle.curves.specs.Inner.{RootOf};
 
+// The product of two fractions: all its digits, and those that are kept where one is in units of 2 ^ -31, in the
+// units of the other.
+fn product(a: u32, b: u32) -> u64 {
+    (a as u64) * (b as u64)
+}
+
+fn times(a: u32, b: u32) -> u32 {
+    ((product(a, b) >> 31) % 0x1_0000_0000) as u32
+}
+
+fn less(a: u32, b: u32) -> u32 {
+    std::num::wrapping_sub_u32(a, b)
+}
+
+// 1 / √m in units of 2 ^ -31, for an m from 1 to 4 in units of 2 ^ -30: by a cubic, at most 0.7 % off.
+fn inverse_root(m: u32) -> u32 {
+    let inner = less(0x63ad_d835, times(0x1381_f3a4, m));
+    less(0xc731_2394, times(less(0xbd26_20f9, times(inner, m)), m))
+}
+
+// g, brought to 24 binary digits.
+fn kept(g: u64) -> u64
+    ensures { λ r. ⌜ (0x80_0000 ≤ r) × (r < 0x100_0000) ⌝ }
+{
+    if g < 0x80_0000 {
+        return 0x80_0000;
+    }
+    if 0xff_ffff < g { 0xff_ffff } else { g }
+}
+
+// Near to the root of n. With n as an m from 1 to 4, and an r near to 1 / √m, both m * r and r are multiplied by
+// (3 - m * r * r) / 2, twice: Goldschmidt's steps. One leaves them too small; a 3 that is a little larger halves
+// that. Of all this its range is promised alone: that it is mostly the answer itself makes the root quick, and
+// nothing rests on it.
+fn guess(n: u64) -> u64
+    ensures { λ r. ⌜ (0x80_0000 ≤ r) × (r < 0x100_0000) ⌝ }
+{
+    let m = ((n >> 16) % 0x1_0000_0000) as u32;
+    let r = inverse_root(m);
+    let root = times(m, r);
+    let step = less(0xc001_30b0, times(root, r));
+    let nearer = times(root, step);
+    let last = less(0xc000_0002, times(nearer, times(r, step)));
+    // in units of 2 ^ -61, to the nearest of 2 ^ -23
+    kept(((product(nearer, last) >> 37) + 1) / 2)
+}
+
 // The whole number nearest to the root of n, which is from 2 ^ 46 to (2 ^ 24 - 1) * 2 ^ 24, so that
-// the root has 24 binary digits. No root is half way between two whole numbers.
+// the root has 24 binary digits. No root is half way between two whole numbers. From any guess of 24
+// digits the two loops end at the answer.
 fn nearest_root(n: u64) -> u64
     requires { ⌜ (0x4000_0000_0000 ≤ n) × (n ≤ 0xffff_ff00_0000) ⌝ }
     ensures { λ q. ⌜ Encloses q n ⌝ }
 {
-    let mut lo: u64 = 0x80_0000;
-    let mut hi: u64 = 0x100_0000;
-    while lo + 1 < hi {
-        let mid = (lo + hi) / 2;
-        let edge = 2 * mid - 1;
-        if edge * edge < 4 * n {
-            lo = mid;
-        } else {
-            hi = mid;
-        }
+    let mut q = guess(n);
+    while 4 * n <= (2 * q - 1) * (2 * q - 1) {
+        q -= 1;
     }
-    lo
+    while (2 * q + 1) * (2 * q + 1) < 4 * n {
+        q += 1;
+    }
+    q
 }
 
 // The square root of `sig` * 2 ^ `place` smallest values, 2 ^ -149 each.
@@ -34,9 +78,10 @@ fn root_of(sig: u32, place: u32) -> f32
     // to 47 or 48 binary digits, whichever leaves an even exponent
     let zeros = u32::leading_zeros(sig);
     let up = zeros + 15;
-    let shift = up + (place + up + 1) % 2;
-    let half = (place + 149 - shift) / 2;
-    let q = nearest_root((sig as u64) << shift);
+    let odd = (place + up + 1) % 2;
+    let half = (place + 149 - (up + odd)) / 2;
+    // a product and no shift: on x86-64 a shift by a register waits for the call before
+    let q = nearest_root(((sig as u64) << up) * ((1 + odd) as u64));
     // the leading digit of q adds one to the exponent's field
     f32::from_bits(half * 0x80_0000 + (q as u32))
 }

@@ -1,4 +1,4 @@
-use super::{BEZIER_BAR, Case, name_of};
+use super::{BEZIER_BAR, Case, is_circ, name_of};
 use crate::ffi::lax_easing_apply;
 use crate::inputs::MANY;
 use crate::meaning::easing_words;
@@ -17,11 +17,11 @@ pub fn cases() -> Vec<Case> {
     supplied.map(apply).collect()
 }
 
-/// A kind without parameters; the three of Circ have a root, and no bar.
+/// Of a kind without parameters, and of `CubicBezier`.
 fn bar(easing: &Easing) -> Option<f64> {
     match easing {
         Easing::CubicBezier(..) => Some(BEZIER_BAR),
-        Easing::EaseInCirc | Easing::EaseOutCirc | Easing::EaseInOutCirc => None,
+        easing if is_circ(easing) => None,
         Easing::Steps(_) | Easing::SlowMo { .. } | Easing::CustomBounce { .. } => None,
         _ => Some(PLAIN_BAR),
     }

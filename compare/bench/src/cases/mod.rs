@@ -37,6 +37,21 @@ const BEZIER_BAR: f64 = 1.5;
 
 pub const BEZIER: Easing = Easing::CubicBezier(0.25, 0.1, 0.25, 1.0);
 
+/// What tweens and tracks are eased by.
+const EASINGS: [Easing; 6] = [
+    Easing::Linear,
+    Easing::EaseInOutCubic,
+    BEZIER,
+    Easing::EaseInCirc,
+    Easing::EaseOutCirc,
+    Easing::EaseInOutCirc,
+];
+
+/// These have a square root, for which the Rust has an instruction.
+fn is_circ(easing: &Easing) -> bool {
+    matches!(easing, Easing::EaseInCirc | Easing::EaseOutCirc | Easing::EaseInOutCirc)
+}
+
 fn name_of(easing: &Easing) -> String {
     let shown = format!("{easing:?}");
     shown.split(|c: char| !c.is_alphanumeric()).next().unwrap_or_default().to_string()

@@ -1,4 +1,4 @@
-use super::{BEZIER, Case, name_of};
+use super::{Case, EASINGS, is_circ, name_of};
 use crate::ffi::{lax_track_push, lax_track_update, lax_track_value_at, track_values_at};
 use crate::inputs::MANY;
 use crate::rules::{FOREVER, last_time};
@@ -14,7 +14,7 @@ const SAMPLES: usize = 1_000;
 pub fn cases() -> Vec<Case> {
     let (mut single, mut batches) = (Vec::new(), Vec::new());
     for frames in [2, 8, 64] {
-        for easing in [Easing::Linear, Easing::EaseInOutCubic, BEZIER, Easing::EaseInCirc] {
+        for easing in EASINGS {
             single.push(value_at(&easing, frames));
             batches.push(sampled(&easing, frames));
         }
@@ -30,7 +30,7 @@ pub fn cases() -> Vec<Case> {
 /// Of one value, the record being checked in each call.
 fn single_bar(easing: &Easing, frames: usize) -> Option<f64> {
     match (easing, frames) {
-        (Easing::EaseInCirc, _) => None,
+        (easing, _) if is_circ(easing) => None,
         (_, 64) => Some(7.5),
         _ => Some(2.5),
     }
@@ -50,6 +50,7 @@ fn batch_bar(easing: &Easing, frames: usize) -> Option<f64> {
     match (easing, frames) {
         (Easing::EaseInOutCubic, _) => Some(0.8),
         (Easing::CubicBezier(..), _) => Some(1.1),
+        (Easing::EaseInCirc, _) => Some(2.0),
         (Easing::Linear, 2) => Some(0.8),
         (Easing::Linear | Easing::EaseInQuad, 64) => Some(1.0),
         _ => None,

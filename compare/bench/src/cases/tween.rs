@@ -1,4 +1,4 @@
-use super::{BEZIER, BEZIER_BAR, Case, name_of};
+use super::{BEZIER_BAR, Case, EASINGS, name_of};
 use crate::ffi::{lax_tween_update, lax_tween_value, tween_run};
 use crate::inputs::MANY;
 use crate::rules::{COMPLETED, FOREVER, IDLE, ONCE, PAUSED, PING_PONG, PING_PONG_TIMES, TIMES};
@@ -37,7 +37,7 @@ pub fn cases() -> Vec<Case> {
     cases.push(Case { bar: Some(MANY_FOLDS_BAR), ..update("Forever", FOREVER, 100) });
     let states = [("Idle", IDLE), ("Paused", PAUSED), ("Completed", COMPLETED)];
     cases.extend(states.map(|(name, state)| Case { bar: Some(STATE_BAR), ..standing(name, state) }));
-    cases.extend([Easing::Linear, Easing::EaseInOutCubic, BEZIER, Easing::EaseInCirc].iter().map(value));
+    cases.extend(EASINGS.iter().map(value));
     cases.extend([0, 1].map(run));
     cases
 }
