@@ -1,9 +1,12 @@
 // The square root, worked out from the bits. It is an inner step of the circular curves: the module
 // is private, so that no other crate can name it, and each use is shown to be of an x from 0 to 1.
 ghost use mathlib.Core.Path.{_≡_};
-ghost use Prim.Native.Nat.{_<_, _≤_};
+ghost use mathlib.Core.Bool.{false};
+ghost use Prim.Native.Nat.{_*_, _^_, _<_, _≤_};
+ghost use lib.Ieee.{Float};
+ghost use lib.Ieee.Exact.{HasValue};
 ghost use Rattle.math.specs.Range.{Within};
-ghost use Rattle.curves.specs.Root.{Encloses, sqrtOf};
+ghost use Rattle.curves.specs.Root.{Encloses, Root, sqrtOf};
 ghost use Rattle.curves.specs.Inner.{RootOf};
 
 // The product of two fractions: all its digits, and those that are kept where one is in units of 2 ^ -31, in the
@@ -26,22 +29,12 @@ fn inverse_root(m: u32) -> u32 {
     less(0xc731_2394, times(less(0xbd26_20f9, times(inner, m)), m))
 }
 
-// g, brought to 24 binary digits.
-fn kept(g: u64) -> u64
-    ensures { λ r. ⌜ (0x80_0000 ≤ r) × (r < 0x100_0000) ⌝ }
-{
-    if g < 0x80_0000 {
-        return 0x80_0000;
-    }
-    if 0xff_ffff < g { 0xff_ffff } else { g }
-}
-
 // Near to the root of n. With n as an m from 1 to 4, and an r near to 1 / √m, both m * r and r are multiplied by
 // (3 - m * r * r) / 2, twice: Goldschmidt's steps. One leaves them too small; a 3 that is a little larger halves
-// that. Of all this its range is promised alone: that it is mostly the answer itself makes the root quick, and
-// nothing rests on it.
+// that. What is promised is that the square fits its type: that this is mostly the answer makes the root quick,
+// and nothing rests on it.
 fn guess(n: u64) -> u64
-    ensures { λ r. ⌜ (0x80_0000 ≤ r) × (r < 0x100_0000) ⌝ }
+    ensures { λ q. ⌜ q ≤ 0x400_0000 ⌝ }
 {
     let m = ((n >> 16) % 0x1_0000_0000) as u32;
     let r = inverse_root(m);
@@ -49,25 +42,37 @@ fn guess(n: u64) -> u64
     let step = less(0xc001_30b0, times(root, r));
     let nearer = times(root, step);
     let last = less(0xc000_0002, times(nearer, times(r, step)));
-    // in units of 2 ^ -61, to the nearest of 2 ^ -23
-    kept(((product(nearer, last) >> 37) + 1) / 2)
+    // from units of 2 ^ -61 to the nearest of 2 ^ -23
+    ((product(nearer, last) >> 37) + 1) / 2
 }
 
 // The whole number nearest to the root of n, which is from 2 ^ 46 to (2 ^ 24 - 1) * 2 ^ 24, so that
-// the root has 24 binary digits. No root is half way between two whole numbers. From any guess of 24
-// digits the two loops end at the answer.
+// the root has 24 binary digits. No root is half way between two whole numbers: q is the nearest where
+// q * (q - 1) < n ≤ q * (q + 1). From any guess the two loops end there.
 fn nearest_root(n: u64) -> u64
     requires { ⌜ (0x4000_0000_0000 ≤ n) × (n ≤ 0xffff_ff00_0000) ⌝ }
     ensures { λ q. ⌜ Encloses q n ⌝ }
 {
     let mut q = guess(n);
-    while 4 * n <= (2 * q - 1) * (2 * q - 1) {
+    while n <= q * q - q {
         q -= 1;
     }
-    while (2 * q + 1) * (2 * q + 1) < 4 * n {
+    while q * (q + 1) < n {
         q += 1;
     }
     q
+}
+
+// The square root of n * 2 ^ `rest` over 2 ^ 298, for an n of 47 binary digits.
+fn scaled_root(n: u64, rest: u32) -> f32
+    requires { ⌜ (0x4000_0000_0000 ≤ n) × (n ≤ 0x7fff_ff80_0000) × (rest < 508) ⌝ }
+    ensures { λ r. ⌜ ((x : Float) → HasValue x false (n * 2 ^ rest) (2 ^ 298) → Root x r) ⌝ }
+{
+    // 48 digits, where that leaves an even exponent. A product, for on x86-64 a shift by a number that is not
+    // known waits for the call before.
+    let q = nearest_root(n * ((1 + rest % 2) as u64));
+    // the leading digit of q adds one to the exponent's field
+    f32::from_bits(rest / 2 * 0x80_0000 + (q as u32))
 }
 
 // The square root of `sig` * 2 ^ `place` smallest values, 2 ^ -149 each.
@@ -75,15 +80,12 @@ fn root_of(sig: u32, place: u32) -> f32
     requires { ⌜ (0 < sig) × (sig < 0x100_0000) × (place < 254) ⌝ }
     ensures { λ r. ⌜ RootOf sig place r ⌝ }
 {
-    // to 47 or 48 binary digits, whichever leaves an even exponent
-    let zeros = u32::leading_zeros(sig);
-    let up = zeros + 15;
-    let odd = (place + up + 1) % 2;
-    let half = (place + 149 - (up + odd)) / 2;
-    // a product and no shift: on x86-64 a shift by a register waits for the call before
-    let q = nearest_root(((sig as u64) << up) * ((1 + odd) as u64));
-    // the leading digit of q adds one to the exponent's field
-    f32::from_bits(half * 0x80_0000 + (q as u32))
+    if sig < 0x80_0000 {
+        // a subnormal number has fewer digits than 24
+        let up = u32::leading_zeros(sig) + 15;
+        return scaled_root((sig as u64) << up, place + 149 - up);
+    }
+    scaled_root((sig as u64) << 23, place + 126)
 }
 
 // IEEE 754's square root, of an x from 0 to 1. A zero is its own root, with its sign.
