@@ -9,24 +9,24 @@ ghost use Rattle.math.specs.Range.{Within};
 ghost use Rattle.curves.specs.Root.{Encloses, Root, sqrtOf};
 ghost use Rattle.curves.specs.Inner.{RootOf};
 
-// The product of two fractions: all its digits, and those that are kept where one is in units of 2 ^ -31, in the
+// The product of two fractions: all its digits, and those that are kept where one is in units of 2 ^ -30, in the
 // units of the other.
 fn product(a: u32, b: u32) -> u64 {
     (a as u64) * (b as u64)
 }
 
 fn times(a: u32, b: u32) -> u32 {
-    ((product(a, b) >> 31) % 0x1_0000_0000) as u32
+    ((product(a, b) >> 30) % 0x1_0000_0000) as u32
 }
 
 fn less(a: u32, b: u32) -> u32 {
     std::num::wrapping_sub_u32(a, b)
 }
 
-// 1 / √m in units of 2 ^ -31, for an m from 1 to 4 in units of 2 ^ -30: by a cubic, at most 0.7 % off.
+// 1 / √m in units of 2 ^ -30, for an m from 1 to 4 in units of 2 ^ -29: by a cubic, at most 0.7 % off.
 fn inverse_root(m: u32) -> u32 {
-    let inner = less(0x63ad_d835, times(0x1381_f3a4, m));
-    less(0xc731_2394, times(less(0xbd26_20f9, times(inner, m)), m))
+    let inner = less(0x31d6_ec1b, times(0x9c0_f9d2, m));
+    less(0x6398_91ca, times(less(0x5e93_107d, times(inner, m)), m))
 }
 
 // Near to the root of n. With n as an m from 1 to 4, and an r near to 1 / √m, both m * r and r are multiplied by
@@ -34,16 +34,16 @@ fn inverse_root(m: u32) -> u32 {
 // that. What is promised is that the square fits its type: that this is mostly the answer makes the root quick,
 // and nothing rests on it.
 fn guess(n: u64) -> u64
-    ensures { λ q. ⌜ q ≤ 0x400_0000 ⌝ }
+    ensures { λ q. ⌜ q ≤ 0x1000_0000 ⌝ }
 {
-    let m = ((n >> 16) % 0x1_0000_0000) as u32;
+    let m = ((n >> 17) % 0x1_0000_0000) as u32;
     let r = inverse_root(m);
     let root = times(m, r);
-    let step = less(0xc001_30b0, times(root, r));
+    let step = less(0x6000_9858, times(root, r));
     let nearer = times(root, step);
-    let last = less(0xc000_0002, times(nearer, times(r, step)));
-    // from units of 2 ^ -61 to the nearest of 2 ^ -23
-    ((product(nearer, last) >> 37) + 1) / 2
+    let last = less(0x6000_0001, times(nearer, times(r, step)));
+    // from units of 2 ^ -59 to the nearest of 2 ^ -23
+    ((product(nearer, last) >> 35) + 1) / 2
 }
 
 // The whole number nearest to the root of n, which is from 2 ^ 46 to (2 ^ 24 - 1) * 2 ^ 24, so that
