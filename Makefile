@@ -1,4 +1,4 @@
-.PHONY: help run test programs lib curves compare damage exhaustive power list bench
+.PHONY: help run test programs lib curves compare damage exhaustive root power list bench
 
 # This list.
 help:
@@ -35,6 +35,10 @@ damage: lib programs
 # Every f32 from 0 to 1 for each easing, against the Rust. It goes on where it was stopped.
 exhaustive: lib
 	@compare/run exhaustive
+
+# The square root at every f32 from 0 to 1, against the processor's own.
+root: lib
+	@compare/run root
 
 # Wrong answers that the short run has to notice.
 power: lib

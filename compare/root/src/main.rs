@@ -16,12 +16,24 @@ unsafe extern "C" {
 fn main() -> ExitCode {
     if let Some(x) = first_difference() {
         let (ours, own) = (inside_sqrt(x), x.sqrt());
-        eprintln!("root: of {x:e}, {:08x}: {ours:e}, {:08x}; the processor has {own:e}, {:08x}", x.to_bits(), ours.to_bits(), own.to_bits());
+        eprintln!(
+            "root: of {x:e}, {:08x}: {ours:e}, {:08x}; the processor has {own:e}, {:08x}",
+            x.to_bits(),
+            ours.to_bits(),
+            own.to_bits()
+        );
         return ExitCode::FAILURE;
     }
     println!("root: {} floats, 0 to 1 and -0: 0 differences", u64::from(ONE) + 2);
     let turns = turns();
-    println!("root: {} operands: {} with no turn, {} with one, {} with more, at most {}", turns.operands, turns.none, turns.one, turns.operands - turns.none - turns.one, turns.most);
+    println!(
+        "root: {} operands: {} with no turn, {} with one, {} with more, at most {}",
+        turns.operands,
+        turns.none,
+        turns.one,
+        turns.operands - turns.none - turns.one,
+        turns.most
+    );
     times::print();
     ExitCode::SUCCESS
 }

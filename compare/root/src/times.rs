@@ -17,22 +17,34 @@ fn operands() -> Vec<f32> {
     (0..MANY).map(|k| (k as f64 * 0.618_033_988_75).fract() as f32).map(|y| 1.0 - y * y).collect()
 }
 
-fn round(root: impl Fn(f32) -> f32, operands: &[f32], answers: &mut [f32]) -> f64 {
-    let began = Instant::now();
+fn stored(root: impl Fn(f32) -> f32, operands: &[f32], answers: &mut [f32]) {
     for (answer, &x) in answers.iter_mut().zip(operands) {
         *answer = root(x);
     }
-    let nanoseconds = began.elapsed().as_nanos() as f64;
     black_box(answers);
-    nanoseconds / operands.len() as f64
+}
+
+fn summed(root: impl Fn(f32) -> f32, operands: &[f32]) {
+    black_box(operands.iter().fold(0.0, |sum, &x| sum + root(x)));
+}
+
+/// The least time of one root, in nanoseconds, of ours and of the processor's own.
+fn least(mut ours: impl FnMut(), mut own: impl FnMut()) -> (f64, f64) {
+    let time = |pass: &mut dyn FnMut()| {
+        let began = Instant::now();
+        pass();
+        began.elapsed().as_nanos() as f64 / MANY as f64
+    };
+    (0..ROUNDS)
+        .fold((f64::INFINITY, f64::INFINITY), |(a, b), _| (a.min(time(&mut ours)), b.min(time(&mut own))))
 }
 
 pub fn print() {
-    let (operands, mut answers) = (operands(), vec![0.0; MANY]);
-    let (mut ours, mut own) = (f64::INFINITY, f64::INFINITY);
-    for _ in 0..ROUNDS {
-        ours = ours.min(round(|x| inside_sqrt(x), &operands, &mut answers));
-        own = own.min(round(own_sqrt, &operands, &mut answers));
+    let (operands, mut answers, mut same) = (operands(), vec![0.0; MANY], vec![0.0; MANY]);
+    let ours = |x| inside_sqrt(x);
+    let kept = least(|| stored(ours, &operands, &mut answers), || stored(own_sqrt, &operands, &mut same));
+    let sums = least(|| summed(ours, &operands), || summed(own_sqrt, &operands));
+    for (what, (ours, own)) in [("stored", kept), ("summed", sums)] {
+        println!("root: answers {what}: {ours:.2} ns, the processor's own {own:.2}, ratio {:.2}", ours / own);
     }
-    println!("root: {ours:.2} ns, the processor's own {own:.2}: {:.2} times", ours / own);
 }
