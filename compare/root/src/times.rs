@@ -9,7 +9,7 @@ const ROUNDS: u32 = 200;
 
 #[inline(never)]
 fn own_sqrt(x: f32) -> f32 {
-    black_box(x).sqrt()
+    x.sqrt()
 }
 
 /// The places of a circular curve, 1 - y * y, by a step that never comes back to a place.

@@ -80,12 +80,15 @@ fn root_of(sig: u32, place: u32) -> f32
     requires { ⌜ (0 < sig) × (sig < 0x100_0000) × (place < 254) ⌝ }
     ensures { λ r. ⌜ RootOf sig place r ⌝ }
 {
+    let mut n = (sig as u64) << 23;
+    let mut rest = place + 126;
     if sig < 0x80_0000 {
         // a subnormal number has fewer digits than 24
         let up = u32::leading_zeros(sig) + 15;
-        return scaled_root((sig as u64) << up, place + 149 - up);
+        n = (sig as u64) << up;
+        rest = place + 149 - up;
     }
-    scaled_root((sig as u64) << 23, place + 126)
+    scaled_root(n, rest)
 }
 
 // IEEE 754's square root, of an x from 0 to 1. A zero is its own root, with its sign.
