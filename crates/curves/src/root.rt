@@ -39,6 +39,7 @@ fn guess(n: u64) -> u64
     let m = ((n >> 17) % 0x1_0000_0000) as u32;
     let r = inverse_root(m);
     let root = times(m, r);
+    // in units of 2 ^ -29, as the next one: `times` takes it for half as much
     let step = less(0x6000_9858, times(root, r));
     let nearer = times(root, step);
     let last = less(0x6000_0001, times(nearer, times(r, step)));
