@@ -12,7 +12,7 @@ use Rattle.curves.specs.Root.{Encloses, rootFrom}
 odd-square : (q n : ℕ) → 4 * n ≤ (2 * q + 1) * (2 * q + 1) → 4 * n < (2 * q + 1) * (2 * q + 1)
 odd-square q n h = omega arith
 
-pub encloses : (q n : ℕ) → (2 * q - 1) * (2 * q - 1) < 4 * n → 4 * n ≤ (2 * (q + 1) - 1) * (2 * (q + 1) - 1) → Encloses q n
+encloses : (q n : ℕ) → (2 * q - 1) * (2 * q - 1) < 4 * n → 4 * n ≤ (2 * (q + 1) - 1) * (2 * (q + 1) - 1) → Encloses q n
 encloses q n l u = record { below = l; above = odd-square q n (subst (λ (x : ℕ). 4 * n ≤ x * x) (next q) u) }
   where
     next : (q : ℕ) → 2 * (q + 1) - 1 ≡ 2 * q + 1

@@ -21,7 +21,7 @@ abbrev pub Ready : ℕ → Type 0
 Ready n = (0x4000_0000_0000 ≤ n) × (n ≤ 0xffff_ff00_0000)
 
 -- at 48 digits a significand has been shifted by 24 at least, so that the last 24 are 0
-pub ready : (sig s : ℕ) → sig < 2 ^ 24 → 2 ^ 46 ≤ sig * 2 ^ s → sig * 2 ^ s < 2 ^ 48 → Ready (sig * 2 ^ s)
+ready : (sig s : ℕ) → sig < 2 ^ 24 → 2 ^ 46 ≤ sig * 2 ^ s → sig * 2 ^ s < 2 ^ 48 → Ready (sig * 2 ^ s)
 ready sig s f l h = (l, go (leb 24 s) refl)
   where
     go : (b : Bool) → leb 24 s ≡ b → sig * 2 ^ s ≤ 0xffff_ff00_0000

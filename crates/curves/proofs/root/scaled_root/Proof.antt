@@ -1,6 +1,6 @@
 -- `scaled_root` meets its contract: n, doubled or not, has 47 or 48 binary digits, so its root has the 24 that a float is written with. Assumes nothing.
 use borrow.Author.Needs.{needs}
-use mathlib.Core.Path.{subst, subst⁻¹}
+use mathlib.Core.Path.{subst⁻¹}
 use mathlib.Core.Bool.{false}
 use Prim.Native.Nat.{ℕ, _+_, _*_, _/_, _%_, _^_, _<_, _≤_}
 use native.Mathlib.Omega.{arith}
