@@ -4,6 +4,7 @@ use mathlib.Core.Bool.{Bool, true, false, cond, _&&_}
 use lib.Ieee.{Float, lt, le, eq, isNan}
 use Rattle.math.specs.Rounded.{_⊕_, _⊗_, _⊘_, zeroF, oneF, topF}
 use Rattle.math.specs.Range.{clamp01Of, maxZeroOf}
+use Rattle.math.specs.Lost.{lostBy}
 use Rattle.math.specs.Whole.{wholePartOf}
 use Rattle.refusal.specs.declared.Refusal.{Refusal}
 use Rattle.refusal.specs.declared.Refusal.the-variants.{ProgressIsNan, RecordBreaksLimit, StepTooLong, StepLost, ElapsedTooLong}
@@ -40,9 +41,9 @@ ran t running = record { track = t; stepped = stepped.Ran running }
 abbrev pub halted : Track → Refusal → Updated
 halted t r = record { track = t; stepped = stepped.Refused r }
 
--- "6 if step > 0 and the sum equals elapsed"
+-- "6 if step > 0 and" the step is lost in the sum; request 5: "Where the rule now asks that the sum equal the old number"
 abbrev pub lostOf : Float → Float → Bool
-lostOf elapsed step = lt zeroF step && eq (elapsed ⊕ step) elapsed
+lostOf elapsed step = lt zeroF step && lostBy elapsed step (elapsed ⊕ step)
 
 -- "the latter two set loop_count to n"
 unfoldable pub finalOf : Loop → ℕ → ℕ

@@ -29,7 +29,7 @@ impl Clock {
 fn is_lost(elapsed: f32, step: f32) -> bool
     ensures { λ r. ⌜ r ≡ lostOf elapsed step ⌝ }
 {
-    (0.0 < step) & (elapsed + step == elapsed)
+    (0.0 < step) & math::is_lost(elapsed, step, elapsed + step)
 }
 
 // loop_count on completion: the passes, but for Once, which keeps the count that it has.

@@ -3,7 +3,7 @@ use mathlib.Core.Path.{_≡_, refl, sym, ap, _∙_}
 use mathlib.Core.Bool.{Bool, true, false, and-true, _&&_, _||_, cond, true≢false, false≢true}
 use mathlib.Core.Logic.{⊎-elim}
 use Prim.Native.Nat.{ℕ, _+_, _*_, _<_, _≤_}
-use native.Mathlib.Nat.{zero-mul, zero-add, mul-pos, eq-zero-or-pos}
+use native.Mathlib.Nat.{zero-mul, zero-add, add-zero, mul-pos, eq-zero-or-pos}
 use native.Mathlib.Omega.{arith}
 use borrow.Author.Tests.{ltb-true, ltb-false, le-ltb, eq-eqb}
 use lib.IntN.{ℤ, pos}
@@ -86,14 +86,22 @@ zeros-below m e (inf t) z = refl
 zeros-below m e (fin true n d) z = le-ltb (n * up d * down e) (m * up e * down d) (omega (arith, no-times (m * up e) (down d) z))
 zeros-below m e (fin false n d) z = rw (no-times (m * up e) (down d) z) (ap (ltb 0) (zero-add (n * up d * down e)))
 
--- below y in size: the larger of x and -x is
-pub size-under : (x y : Float) → lt (cond (lt x (neg x)) (neg x) x) y ≡ lt (sizeOf x) y
+-- and above the same floats
+zeros-above : (m : ℕ) (e : ℤ) (y : Float) → m * up e ≡ 0 → lt y (fin true m e) ≡ lt y (fin false m e)
+unfolding lt
+zeros-above m e nan z = refl
+zeros-above m e (inf t) z = refl
+zeros-above m e (fin true n d) z = rw (no-times (m * up e) (down d) z) (ap (ltb 0) (sym (add-zero (n * up d * down e))))
+zeros-above m e (fin false n d) z = sym (le-ltb (n * up d * down e) (m * up e * down d) (omega (arith, no-times (m * up e) (down d) z)))
+
+-- what holds of a float with its sign clear, and of both zeros alike, holds of the larger of x and -x as of the size
+by-larger : (C : Float → Bool) → ((m : ℕ) (e : ℤ) → m * up e ≡ 0 → C (fin true m e) ≡ C (fin false m e)) → (x : Float) → C (cond (lt x (neg x)) (neg x) x) ≡ C (sizeOf x)
 unfolding lt neg
-size-under nan y = refl
-size-under (inf true) y = refl
-size-under (inf false) y = refl
-size-under (fin false m e) y = refl
-size-under (fin true m e) y = go (ltb 0 (m * up e * down e + m * up e * down e)) refl
+by-larger C zeros nan = refl
+by-larger C zeros (inf true) = refl
+by-larger C zeros (inf false) = refl
+by-larger C zeros (fin false m e) = refl
+by-larger C zeros (fin true m e) = go (ltb 0 (m * up e * down e + m * up e * down e)) refl
   where
     nothing : (a : ℕ) → a * down e + a * down e ≤ 0 → a ≡ 0
     nothing a h = ⊎-elim (λ z. z) (λ p. absurd (crossed (mul-pos p (down-pos e)))) (eq-zero-or-pos a)
@@ -101,9 +109,17 @@ size-under (fin true m e) y = go (ltb 0 (m * up e * down e + m * up e * down e))
         crossed : 0 < a * down e → ⊥
         crossed p = omega arith
 
-    go : (b : Bool) → ltb 0 (m * up e * down e + m * up e * down e) ≡ b → lt (cond b (fin false m e) (fin true m e)) y ≡ lt (fin false m e) y
+    go : (b : Bool) → ltb 0 (m * up e * down e + m * up e * down e) ≡ b → C (cond b (fin false m e) (fin true m e)) ≡ C (fin false m e)
     go true h = refl
-    go false h = zeros-below m e y (nothing (m * up e) (ltb-false 0 _ h))
+    go false h = zeros m e (nothing (m * up e) (ltb-false 0 _ h))
+
+-- below y in size: the larger of x and -x is
+pub size-under : (x y : Float) → lt (cond (lt x (neg x)) (neg x) x) y ≡ lt (sizeOf x) y
+size-under x y = by-larger (λ (z : Float). lt z y) (λ m e z. zeros-below m e y z) x
+
+-- and so it is of above
+pub size-over : (x y : Float) → lt y (cond (lt x (neg x)) (neg x) x) ≡ lt y (sizeOf x)
+size-over x y = by-larger (λ (z : Float). lt y z) (λ m e z. zeros-above m e y z) x
 
 -- at most y in size: from -y to y
 pub size-between : (x : Float) (n : ℕ) (d : ℤ) → isBetween (fin true n d) (fin false n d) x ≡ le (sizeOf x) (fin false n d)

@@ -10,6 +10,7 @@ pub mod Fitting
 mod Form
 mod Least
 pub mod Lists
+pub mod Losses
 pub mod Numbers
 pub mod Order
 pub mod Ordered

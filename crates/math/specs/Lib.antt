@@ -3,5 +3,6 @@ pub mod Bits
 pub mod Blend
 pub mod Range
 pub mod Whole
+pub mod Lost
 pub mod Lists
 pub mod Bytes

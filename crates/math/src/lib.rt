@@ -2,6 +2,7 @@
 mod blending;
 mod class;
 mod division;
+mod lost;
 mod pattern;
 mod range;
 mod whole;
@@ -12,6 +13,7 @@ pub use class::infinity;
 pub use class::is_finite;
 pub use class::is_nan;
 pub use division::remainder;
+pub use lost::is_lost;
 pub use pattern::bits;
 pub use pattern::of_bits;
 pub use range::EPSILON;

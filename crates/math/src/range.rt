@@ -64,6 +64,13 @@ pub fn is_below(x: f32, limit: f32) -> bool
     larger(x, -x) < limit
 }
 
+// Whether x is above a limit in size, as `is_below` asks it.
+pub fn is_above(x: f32, limit: f32) -> bool
+    ensures { λ r. ⌜ r ≡ lt limit (sizeOf x) ⌝ }
+{
+    limit < larger(x, -x)
+}
+
 // From lo to hi; a NaN is not.
 pub fn is_between(x: f32, lo: f32, hi: f32) -> bool
     ensures { λ r. ⌜ r ≡ isBetween lo hi x ⌝ }

@@ -13,7 +13,7 @@ pub enum Refusal {
     RecordBreaksLimit,
     // The step is above 16,777,216 s.
     StepTooLong,
-    // The step is above 0, and the f32 sum does not show it.
+    // Lost time: the f32 sum would be off by more than an eighth of what the step adds.
     StepLost,
     // The step needs more than 4,096 folds.
     TooManyFolds,

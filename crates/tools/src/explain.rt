@@ -80,7 +80,10 @@ fn say_why(fd: i32, number: u32) {
         ),
         4 => say(fd, b"the tween or the track breaks a limit"),
         5 => say(fd, b"the step is above 16,777,216 s"),
-        6 => say(fd, b"the step is above 0, and the f32 sum does not show it"),
+        6 => say(
+            fd,
+            b"lost time: the f32 sum would be off by more than an eighth of what the step adds",
+        ),
         7 => say(fd, b"the step needs more than 4,096 folds"),
         8 => say(
             fd,

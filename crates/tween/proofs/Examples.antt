@@ -33,17 +33,17 @@ waited w =
       «ping_pong_reverse» = t .«ping_pong_reverse»;
     }
 
--- 0.6 and 1.2 times the distance from 1 to the next f32: the second is exactly twice the first
+-- 4.4 and 8.8 times the distance from 1 to the next f32: the second is exactly twice the first
 abbrev short : Float
-short = f32 0x3399_999a
+short = f32 0x350c_cccd
 
 abbrev long : Float
-long = f32 0x3419_999a
+long = f32 0x358c_cccd
 
--- from 1 s on, two short steps come to 1 + 2^-22, and the one long step to 1 + 2^-23
-pub cuts-differ : (updateOf (waited oneF) short ≡ Ran (waited (f32 0x3f80_0001)) 0 true)
-    × (updateOf (waited (f32 0x3f80_0001)) short ≡ Ran (waited (f32 0x3f80_0002)) 0 true)
+-- from 1 s on, two short steps come to 1 + 8 * 2^-23, and the one long step to 1 + 9 * 2^-23; none is lost
+pub cuts-differ : (updateOf (waited oneF) short ≡ Ran (waited (f32 0x3f80_0004)) 0 true)
+    × (updateOf (waited (f32 0x3f80_0004)) short ≡ Ran (waited (f32 0x3f80_0008)) 0 true)
     × (short ⊕ short ≡ long)
-    × (updateOf (waited oneF) long ≡ Ran (waited (f32 0x3f80_0001)) 0 true)
+    × (updateOf (waited oneF) long ≡ Ran (waited (f32 0x3f80_0009)) 0 true)
 unfolding ofBits add sub mul lt le eq updateOf withinOf settingsWithin clockWithin modeWithin fitsRecordOf suppliedOf paramsOf paramsWithin byState waitOf
 cuts-differ = (refl, refl, refl, refl)

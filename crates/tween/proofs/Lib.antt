@@ -5,6 +5,7 @@ pub mod Glides
 pub mod Handed
 pub mod Kept
 pub mod KeptByUpdate
+pub mod Losses
 pub mod Reported
 pub mod Unchanged
 pub mod Valued

@@ -3,6 +3,7 @@ use mathlib.Core.Bool.{Bool, true, false, not, _&&_, cond}
 use lib.Ieee.{Float, lt, eq}
 use Rattle.math.specs.Rounded.{zeroF, topF, _⊕_, _⊖_, _⊗_}
 use Rattle.math.specs.Range.{maxZeroOf}
+use Rattle.math.specs.Lost.{lostBy}
 use Rattle.refusal.specs.declared.Refusal.the-variants.{RecordBreaksLimit, StepTooLong, StepLost, TooManyFolds}
 use Rattle.refusal.specs.Refusing.{unless, when}
 use Rattle.tween.specs.declared.record.Tween.{Tween}
@@ -76,10 +77,10 @@ waiting t w =
       state = Idle;
     }
 
--- "Step lost (added): step > 0 and either Idle with the delay sum equal to delay_elapsed, or Running with scale > 0, elapsed < duration and the sum equal to elapsed"
+-- "Step lost (added): step > 0 and either Idle [..], or Running with scale > 0, elapsed < duration [..]". Request 5: "Where the rule now asks that the sum equal the old number", what was to be added is lost there: while Idle the step, while Running the step times scale
 abbrev pub lostOf : TweenState → Tween → Float → Float → Bool
-lostOf Idle t x sum = lt zeroF x && eq sum (t .«delay_elapsed»)
-lostOf Running t x sum = lt zeroF x && lt zeroF (t .«time_scale») && lt (t .elapsed) (t .duration) && eq sum (t .elapsed)
+lostOf Idle t x sum = lt zeroF x && lostBy (t .«delay_elapsed») x sum
+lostOf Running t x sum = lt zeroF x && lt zeroF (t .«time_scale») && lt (t .elapsed) (t .duration) && lostBy (t .elapsed) (x ⊗ t .«time_scale») sum
 lostOf Paused t x sum = false
 lostOf Completed t x sum = false
 

@@ -88,7 +88,8 @@ fn wait(t: Tween, x: f32) -> Begun
     ensures { λ r. ⌜ finishOf t r ≡ waitOf t x (t .«delay_elapsed» ⊕ x) ⌝ }
 {
     let waited = t.delay_elapsed + x;
-    if (x > 0.0) & (waited == t.delay_elapsed) {
+    let lost = math::is_lost(t.delay_elapsed, x, waited);
+    if (x > 0.0) & lost {
         return Begun::Lost;
     }
     if waited < t.delay {
@@ -104,8 +105,10 @@ fn wait(t: Tween, x: f32) -> Begun
 pub fn run(t: Tween, x: f32) -> Begun
     ensures { λ r. ⌜ finishOf t r ≡ runOf t x (t .elapsed ⊕ x ⊗ t .«time_scale») ⌝ }
 {
-    let e = t.elapsed + x * t.time_scale;
-    if (x > 0.0) & (t.time_scale > 0.0) & (t.elapsed < t.duration) & (e == t.elapsed) {
+    let add = x * t.time_scale;
+    let e = t.elapsed + add;
+    let lost = math::is_lost(t.elapsed, add, e);
+    if (x > 0.0) & (t.time_scale > 0.0) & (t.elapsed < t.duration) & lost {
         return Begun::Lost;
     }
     Begun::Runs {

@@ -79,8 +79,9 @@ fn run(w: &[u32; 18], secs: f32) -> Slid
 {
     let duration = f32::from_bits(w[2]);
     let elapsed = f32::from_bits(w[13]);
-    let e = elapsed + math::max_zero(secs) * f32::from_bits(w[10]);
-    if e == elapsed {
+    let add = math::max_zero(secs) * f32::from_bits(w[10]);
+    let e = elapsed + add;
+    if math::is_lost(elapsed, add, e) {
         return Slid::Unsure;
     }
     if duration == 0.0 {
@@ -114,8 +115,9 @@ fn wait(w: &[u32; 18], secs: f32) -> Slid
     ensures { λ r. ⌜ SlidesTo (now (w .entry)) secs r ⌝ }
 {
     let waited = f32::from_bits(w[14]);
-    let sum = waited + math::max_zero(secs);
-    if sum == waited {
+    let step = math::max_zero(secs);
+    let sum = waited + step;
+    if math::is_lost(waited, step, sum) {
         return Slid::Unsure;
     }
     if sum < f32::from_bits(w[9]) {
