@@ -1,6 +1,7 @@
 pub mod Batches
 mod Changes
 pub mod Kept
+pub mod Losses
 mod Moves
 pub mod Promises
 pub mod Records

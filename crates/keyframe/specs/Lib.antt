@@ -4,6 +4,7 @@ pub mod Playback
 pub mod Sampling
 pub mod Batch
 pub mod Stepping
+pub mod Losses
 pub mod Clock
 pub mod Inner
 pub mod Promises

@@ -1,8 +1,9 @@
--- Tests: what holds of both values of a test holds of what it picks, and a function of both; a conjunction that passes, and one that fails; a test turned round. Assumes nothing.
+-- Tests: what holds of both values of a test holds of what it picks, and a function of both; a conjunction that passes, one that fails, and a weaker one; a test turned round. Assumes nothing.
 use mathlib.Core.Path.{_≡_, refl, sym, _∙_}
 use mathlib.Core.Bool.{Bool, true, false, not, _&&_, cond, false≢true}
 use mathlib.Core.Logic.{_⊎_, inl, inr}
 use borrow.Author.Tests.{not-true, not-false}
+use lib.Dec.{T}
 
 pub by-test : {A : Type 0} (C : A → Type 0) (b : Bool) (x y : A) → (b ≡ true → C x) → (b ≡ false → C y) → C (cond b x y)
 by-test C true x y h k = h refl
@@ -20,6 +21,11 @@ and-both false b h = absurd (false≢true h)
 pub and-fails : (a b : Bool) → a && b ≡ false → (a ≡ false) ⊎ (b ≡ false)
 and-fails true b h = inr h
 and-fails false b h = inl refl
+
+-- a conjunction passes still where its last part gives way to a weaker one
+pub and-weaker : (a b c : Bool) → (T b → T c) → T (a && b) → T (a && c)
+and-weaker true b c h k = h k
+and-weaker false b c h k = k
 
 -- a test `!b` of a call's answer b, which is w
 pub fails : (b w : Bool) → b ≡ w → not b ≡ true → w ≡ false

@@ -12,7 +12,7 @@ use lib.Ieee.Bits.{is-true}
 use Rattle.math.specs.Rounded.{zeroF, topF, _⊕_, _⊗_}
 use Rattle.math.specs.Range.{maxZeroOf}
 use Rattle.math.specs.Whole.{Is}
-use Rattle.math.proofs.Choice.{by-test}
+use Rattle.math.proofs.Choice.{by-test, and-weaker}
 use Rattle.math.proofs.Wholes.{zero-is, lt-is, mul-exact}
 use Rattle.math.proofs.Losses.{still-lost as sum-still, whole-kept as sum-kept, step-kept}
 use Rattle.refusal.specs.declared.Refusal.the-variants.{RecordBreaksLimit, StepTooLong, StepLost}
@@ -76,15 +76,10 @@ module _ (t : Tween) where
 pub update-six-exactly : UpdateSixExactly
 update-six-exactly t x = (λ h. six-reaches t x (subst⁻¹ Six h refl), reaches-six t x)
 
--- a test that passes with the last of its parts does so with a weaker one
-weaker : (a b c : Bool) → (T b → T c) → T (a && b) → T (a && c)
-weaker true b c h k = h k
-weaker false b c h k = k
-
 pub still-lost : StillLost
-still-lost Idle t x h = weaker (lt zeroF x) _ _ (sum-still (t .«delay_elapsed») x (t .«delay_elapsed» ⊕ x)) h
+still-lost Idle t x h = and-weaker (lt zeroF x) _ _ (sum-still (t .«delay_elapsed») x (t .«delay_elapsed» ⊕ x)) h
 still-lost Running t x h =
-    weaker (lt zeroF x && lt zeroF (t .«time_scale») && lt (t .elapsed) (t .duration)) _ _ (sum-still (t .elapsed) (x ⊗ t .«time_scale») (t .elapsed ⊕ x ⊗ t .«time_scale»)) h
+    and-weaker (lt zeroF x && lt zeroF (t .«time_scale») && lt (t .elapsed) (t .duration)) _ _ (sum-still (t .elapsed) (x ⊗ t .«time_scale») (t .elapsed ⊕ x ⊗ t .«time_scale»)) h
 still-lost Paused t x h = h
 still-lost Completed t x h = h
 

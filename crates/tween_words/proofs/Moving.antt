@@ -2,7 +2,7 @@
 use Prim.Native.Nat.{ℕ, zero, suc, _+_, _%_, _≤_, _<_}
 use native.Mathlib.Omega.{arith}
 use mathlib.Core.Path.{_≡_, refl, sym, ap, _∙_}
-use mathlib.Core.Bool.{Bool, true, false, not, cond, _&&_}
+use mathlib.Core.Bool.{Bool, true, false, not, cond, _&&_, and-false}
 use mathlib.Core.List.{List}
 use lib.Dec.{T, eqb}
 use lib.Ieee.{Float, binary32, isNan, lt, le, eq}
@@ -11,6 +11,7 @@ use lib.ListN.{getD, set}
 use lib.Seq.{set-getD, getD-set-other}
 use Rattle.math.specs.Bits.{bitsOf}
 use Rattle.math.specs.Range.{maxZeroOf}
+use Rattle.math.specs.Lost.{lostBy}
 use Rattle.math.specs.Rounded.{f32, zeroF, topF, _⊕_, _⊖_, _⊗_}
 use Rattle.math.proofs.Patterns.{no-nan}
 use Rattle.loop_mode.specs.declared.Loop.{Loop}
@@ -32,12 +33,8 @@ use Rattle.tween_words.specs.Stepping.{turnFrom, turnOf, Steps}
 use Rattle.tween_words.proofs.Fits.{Fit, parts, stateAt, readIn, reads, inside}
 use Rattle.tween_words.proofs.Folding.{left, turns, flag-kept}
 
-and-false : (s : Bool) → s && false ≡ false
-and-false true = refl
-and-false false = refl
-
 -- a step that is not lost
-steps-on : (t : Tween) (x e : Float) → withinOf t ≡ true → t .state ≡ Running → lt topF x ≡ false → e ≡ t .elapsed ⊕ maxZeroOf x ⊗ t .«time_scale» → eq e (t .elapsed) ≡ false → updateOf t x ≡ advanced t (t .«delay_elapsed») e
+steps-on : (t : Tween) (x e : Float) → withinOf t ≡ true → t .state ≡ Running → lt topF x ≡ false → e ≡ t .elapsed ⊕ maxZeroOf x ⊗ t .«time_scale» → lostBy (t .elapsed) (maxZeroOf x ⊗ t .«time_scale») e ≡ false → updateOf t x ≡ advanced t (t .«delay_elapsed») e
 unfolding updateOf byState runOf
 steps-on t x e w s u q l =
     rw (w, u, s, ← q, l, and-false (lt zeroF (maxZeroOf x) && lt zeroF (t .«time_scale») && lt (t .elapsed) (t .duration))) refl
@@ -64,7 +61,7 @@ steps : (t : Tween) (w e : Float) → eq (t .duration) zeroF ≡ false → due (
 unfolding advanced folded
 steps t w e z d = rw (z, d, no-fold (t .looping) (t .duration) (beginAt t e) 4095, d) refl
 
-waits : (t : Tween) (x s : Float) → withinOf t ≡ true → t .state ≡ Idle → lt topF x ≡ false → s ≡ t .«delay_elapsed» ⊕ maxZeroOf x → eq s (t .«delay_elapsed») ≡ false → lt s (t .delay) ≡ true → updateOf t x ≡ updated.Ran (put (waiting t s) t) 0 true
+waits : (t : Tween) (x s : Float) → withinOf t ≡ true → t .state ≡ Idle → lt topF x ≡ false → s ≡ t .«delay_elapsed» ⊕ maxZeroOf x → lostBy (t .«delay_elapsed») (maxZeroOf x) s ≡ false → lt s (t .delay) ≡ true → updateOf t x ≡ updated.Ran (put (waiting t s) t) 0 true
 unfolding updateOf byState waitOf
 waits t x s w i u q l b = rw (w, u, i, ← q, l, and-false (lt zeroF (maxZeroOf x)), b) refl
 
@@ -162,11 +159,11 @@ module _ (ws : List ℕ) (x : Float) (fit : fitsOf ws ≡ true) (short : lt topF
   completed h =
       record { from = readIn ws; to = readIn ws; read = reads ws f; ran = rests (readIn ws) x (inside ws f) (ap stateAt h) short; words = sym (kept-words ws f) }
 
-  pub waited-on : (s : Float) → wordAt ws 15 ≡ 0 → s ≡ floatAt ws 14 ⊕ maxZeroOf x → eq s (floatAt ws 14) ≡ false → lt s (floatAt ws 9) ≡ true → Steps ws x 0 true (set ws 14 (bitsOf s))
+  pub waited-on : (s : Float) → wordAt ws 15 ≡ 0 → s ≡ floatAt ws 14 ⊕ maxZeroOf x → lostBy (floatAt ws 14) (maxZeroOf x) s ≡ false → lt s (floatAt ws 9) ≡ true → Steps ws x 0 true (set ws 14 (bitsOf s))
   waited-on s h q l b =
       record { from = readIn ws; to = _; read = reads ws f; ran = waits (readIn ws) x s (inside ws f) (ap stateAt h) short q l b; words = waiting-words ws f s h }
 
-  module _ (e : Float) (runs : wordAt ws 15 ≡ 1) (sum : e ≡ floatAt ws 13 ⊕ maxZeroOf x ⊗ floatAt ws 10) (goes : eq e (floatAt ws 13) ≡ false) (long : eq (floatAt ws 2) zeroF ≡ false) where
+  module _ (e : Float) (runs : wordAt ws 15 ≡ 1) (sum : e ≡ floatAt ws 13 ⊕ maxZeroOf x ⊗ floatAt ws 10) (goes : lostBy (floatAt ws 13) (maxZeroOf x ⊗ floatAt ws 10) e ≡ false) (long : eq (floatAt ws 2) zeroF ≡ false) where
     on : updateOf (readIn ws) x ≡ advanced (readIn ws) (floatAt ws 14) e
     on = steps-on (readIn ws) x e (inside ws f) (ap stateAt runs) short sum goes
 
