@@ -74,31 +74,27 @@ fn rows_of_0_02() {
     }
 }
 
-/// Numbers of every size, and steps of a part of a distance up to some sixteen.
+/// Numbers of every size, half of them at a row's end, and steps of half a distance to sixteen.
 #[test]
 fn four_distances() {
     let mut state: u64 = 1;
-    let mut random = || {
+    let mut random = |below: u32| {
         state = state.wrapping_mul(6_364_136_223_846_793_005).wrapping_add(1_442_695_040_888_963_407);
-        (state >> 33) as u32
+        (state >> 33) as u32 % below
     };
     let mut few = [0; 2];
     for _ in 0..400_000 {
-        let elapsed = f32::from_bits(random() % LIMIT.to_bits());
-        let step =
-            distance(elapsed) * (1.0 + random() as f32 / (1u32 << 31) as f32) * (1 << (random() % 5)) as f32
-                / 2.0;
+        let elapsed = f32::from_bits(random(LIMIT.to_bits()) | [0, 0x007f_fff0][random(2) as usize]);
+        let part = f32::from_bits(1f32.to_bits() | random(1 << 23));
+        let step = distance(elapsed) * part * [0.5, 1.0, 2.0, 4.0, 8.0][random(5) as usize];
         let sum = elapsed + step;
         if sum > LIMIT {
             continue;
         }
         let lost = is_lost(elapsed, step);
         assert!(!lost || step < 4.0 * distance(sum), "{elapsed:e} + {step:e}");
-        let off = f64::from(sum) - f64::from(elapsed) - f64::from(step);
-        assert!(
-            lost || step < 2f32.powi(-123) || off.abs() <= f64::from(step) / 8.0,
-            "{elapsed:e} + {step:e}"
-        );
+        let off = (f64::from(sum) - f64::from(elapsed) - f64::from(step)).abs();
+        assert!(lost || step < 2f32.powi(-123) || off <= f64::from(step) / 8.0, "{elapsed:e} + {step:e}");
         if elapsed >= 1.0 {
             let distances = f64::from(step / distance(elapsed));
             let in_row = distance(sum) == distance(elapsed);
@@ -111,7 +107,12 @@ fn four_distances() {
     assert!(!is_lost(65_536.0, 1.0 / 60.0));
 }
 
-/// Every number of the first row, and some of the others up to the limit.
+/// The last numbers before a power of two.
+fn last_before(row: f32) -> impl Iterator<Item = f32> {
+    (1..=64).rev().map(move |back| f32::from_bits(row.to_bits() - back))
+}
+
+/// Every number of the first row; of the others up to the limit some, and the last.
 fn refused_from(from: f32, step: f32) {
     let mut track = endless(from);
     for _ in 0..1 << 23 {
@@ -119,9 +120,11 @@ fn refused_from(from: f32, step: f32) {
         track.update(distance(from)).unwrap();
     }
     assert_eq!(track.elapsed(), 2.0 * from);
-    let rest = 2.0 * from..=LIMIT;
-    for bits in (rest.start().to_bits()..=rest.end().to_bits()).step_by(4099) {
-        assert!(is_lost(f32::from_bits(bits), step));
+    let mut row = 2.0 * from;
+    while row < LIMIT {
+        let some = (0..1 << 23).step_by(4099).map(|place| after(row, place));
+        assert!(some.chain(last_before(2.0 * row)).all(|elapsed| is_lost(elapsed, step)));
+        row *= 2.0;
     }
     assert!(is_lost(LIMIT, step));
 }
@@ -143,43 +146,43 @@ fn accepted_in(row: f32, step: f32) {
 /// Below `from` the sums that pass a power of two, and the rows in which a step is less than four distances; the
 /// others are never refused.
 fn refused_before(from: f32, step: f32) -> Vec<f32> {
-    let mut row = from;
+    let mut row = 1.0;
     let mut found = Vec::new();
-    while row > 1.0 {
-        let last: Vec<f32> = (1..64).map(|back| f32::from_bits(row.to_bits() - back)).collect();
-        found.extend(last.into_iter().filter(|&elapsed| is_lost(elapsed, step)));
-        row /= 2.0;
+    while row < from {
         if step < 4.0 * distance(row) {
             accepted_in(row, step);
         }
+        row *= 2.0;
+        found.extend(last_before(row).filter(|&elapsed| is_lost(elapsed, step)));
     }
-    found.reverse();
     found
 }
 
-fn row_of_step(told: &str, seconds: f64, from: f32) {
-    let step = seconds as f32;
-    refused_from(from, step);
-    let before: Vec<String> = refused_before(from, step).into_iter().map(|x| commas(x, 3) + " s").collect();
+/// How many steps from 0 on are accepted, and the elapsed then.
+fn accepted_from_0(step: f32) -> (u32, f32) {
     let mut track = endless(0.0);
     let mut taken = 0;
     while track.update(step).is_ok() {
         taken += 1;
     }
     assert!(is_lost(track.elapsed(), step));
+    (taken, track.elapsed())
+}
+
+fn row_of_step(told: &str, seconds: f64, from: f32) {
+    let step = seconds as f32;
+    refused_from(from, step);
+    let before: Vec<String> = refused_before(from, step).into_iter().map(|x| commas(x, 3) + " s").collect();
+    let (taken, elapsed) = accepted_from_0(step);
     let due = f64::from(taken) * seconds;
-    if step == STEP {
-        let (taken, due, elapsed) = (commas(taken, 0), commas(due, 1), commas(track.elapsed(), 3));
-        said(&format!("{taken} steps, {due} s of the pump's time, shows {elapsed} s and then refuses"));
-    }
     let figures = [
         told.into(),
         commas(from, 0) + " s",
         before.join(", "),
         commas(taken, 0),
         commas(due, 2) + " s",
-        commas(track.elapsed(), 3) + " s",
-        commas(due - f64::from(track.elapsed()), 2) + " s",
+        commas(elapsed, 3) + " s",
+        commas(due - f64::from(elapsed), 2) + " s",
     ];
     said(&format!("| {} |", figures.join(" | ")));
 }
@@ -197,6 +200,10 @@ fn where_a_60th_is_refused() {
 #[test]
 fn where_0_02_is_refused() {
     row_of_step("0.02 s", 0.02, 65_536.0);
+    let (taken, elapsed) = accepted_from_0(STEP);
+    let due = commas(0.02 * f64::from(taken), 1);
+    let (taken, elapsed) = (commas(taken, 0), commas(elapsed, 3));
+    said(&format!("{taken} steps, {due} s of the pump's time, shows {elapsed} s and then refuses"));
 }
 
 #[test]
@@ -265,31 +272,28 @@ fn a_carry_beside_other_refusals() {
     assert_eq!(track.elapsed(), 8_388_616.0);
 }
 
-/// A tween, with what was handed over and accepted.
+/// A tween with a carry, and the folds that it made.
 struct Carried {
     tween: Tween,
     carry: f32,
     folds: u32,
-    accepted: Vec<f32>,
 }
 
 impl Carried {
     fn new(duration: f32) -> Carried {
         let tween = Tween { duration, looping: Loop::Forever, ..Tween::new(0.0, 8.0) };
-        Carried { tween, carry: 0.0, folds: 0, accepted: Vec::new() }
+        Carried { tween, carry: 0.0, folds: 0 }
     }
 
-    fn advance(&mut self, step: f32) -> bool {
+    /// What was handed over, where it was accepted.
+    fn advance(&mut self, step: f32) -> Option<f32> {
         let (due, before) = (step + self.carry, self.tween.elapsed);
         let answer = self.tween.update(due);
-        let folds = answer.map_or(0, |update| update.folds);
         assert!(matches!(answer, Ok(_) | Err(Refusal::StepLost)));
+        let folds = answer.map_or(0, |update| update.folds);
         self.carry = due - (self.tween.elapsed + folds as f32 * self.tween.duration - before);
         self.folds += folds;
-        if answer.is_ok() && self.accepted.len() < self.accepted.capacity() {
-            self.accepted.push(due);
-        }
-        answer.is_ok()
+        answer.is_ok().then_some(due)
     }
 
     fn time(&self) -> f64 {
@@ -298,16 +302,16 @@ impl Carried {
     }
 }
 
+/// A log of what was accepted gives the tween back.
 #[test]
 fn a_tween_of_a_day_with_a_carry() {
     let mut day = Carried::new(86_400.0);
     let begun = day.tween;
-    day.accepted.reserve_exact(5_000_000);
-    let taken = (0..5_000_000).filter(|_| day.advance(STEP)).count();
-    assert!(taken < 5_000_000 && day.folds == 1);
+    let accepted: Vec<f32> = (0..5_000_000).filter_map(|_| day.advance(STEP)).collect();
+    assert!(accepted.len() < 5_000_000 && day.folds == 1);
     said("in 5,000,000 steps, came to 5,000,000 times that f32 exactly");
     assert_eq!(day.time(), 5e6 * f64::from(STEP));
-    let reached = replay(begun, &log_of(&day.accepted), &mut vec![0; taken]).unwrap();
+    let reached = replay(begun, &log_of(&accepted), &mut vec![0; accepted.len()]).unwrap();
     assert_eq!((reached.tween, reached.folds), (day.tween, 1));
 }
 
@@ -330,11 +334,11 @@ fn tweens_of_520_000_s() {
         row(told, told_duration, made, tween.elapsed);
     }
     let mut carried = Carried::new(1.0);
-    assert!((0..26_000_000).all(|_| carried.advance(STEP)));
+    assert!((0..26_000_000).all(|_| carried.advance(STEP).is_some()));
     row("0.02 s, with [a carry](#what-to-carry)", "1 s", carried.folds, carried.tween.elapsed);
     let due = 26e6 * f64::from(STEP);
     said(&format!("26,000,000 times the f32 next to it are {} s", commas(due, 4)));
-    assert!((carried.time() - due).abs() < 1e-6);
+    assert_eq!(carried.time(), due);
 }
 
 /// Up to a duration of 65,535 s: 0.02 s is four distances at every sum below 65,536 s.
