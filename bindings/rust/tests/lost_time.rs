@@ -241,7 +241,7 @@ fn a_carry_keeps_the_time() {
     let off = (of(track.elapsed()) + of(carry) - due).abs();
     said(&format!("in 26,000,000 steps of which {} were refused, ends {off:.3} s off", commas(refused, 0)));
     said(&format!("which is {:.3} s short of 520,000 s itself", 520_000.0 - due));
-    said(&format!("at no time further off than {furthest:.3} s"));
+    said(&format!("at no time further off than {:.3} s", (1000.0 * furthest).ceil() / 1000.0));
 }
 
 #[test]
