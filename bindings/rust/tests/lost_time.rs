@@ -272,6 +272,18 @@ fn a_carry_beside_other_refusals() {
     assert_eq!(track.elapsed(), 8_388_616.0);
 }
 
+#[test]
+fn a_carry_at_a_power_of_two_and_at_the_end() {
+    let (step, before) = (1.0 / 60.0, f32::from_bits(65_536f32.to_bits() - 3));
+    let (mut track, mut carry) = (endless(before), 0.0);
+    assert_eq!((advance(&mut track, step, &mut carry), track.elapsed()), (Ok(true), before));
+    assert_eq!((advance(&mut track, step, &mut carry), track.elapsed() > before), (Ok(true), true));
+    let (mut once, mut carry) = (endless(0.75), 0.0);
+    once.looping(Loop::Once).unwrap();
+    assert_eq!((advance(&mut once, 0.5, &mut carry), carry), (Ok(false), 0.25));
+    assert_eq!((advance(&mut once, 0.5, &mut carry), carry), (Ok(false), 0.75));
+}
+
 /// A tween with a carry, and the folds that it made.
 struct Carried {
     tween: Tween,
