@@ -56,7 +56,7 @@ enum {
     LAX_EASING_PARAMETER = 3,    /* a parameter of the easing is not finite or beyond its limit */
     LAX_RECORD_BREAKS_LIMIT = 4, /* the tween or the track breaks a limit */
     LAX_STEP_TOO_LONG = 5,       /* the step is above 16,777,216 s */
-    LAX_STEP_LOST = 6,           /* the step is above 0, and the f32 sum does not show it */
+    LAX_STEP_LOST = 6,           /* lost time: the f32 sum would be off by more than an eighth of what the step adds */
     LAX_TOO_MANY_FOLDS = 7,      /* the step needs more than 4,096 folds */
     LAX_ELAPSED_TOO_LONG = 8,    /* the elapsed of a track without an end would pass 16,777,216 s */
     LAX_TRACK_FULL = 9,          /* the track has 64 frames, and none of them at this time */
@@ -82,7 +82,7 @@ static inline const char *lax_refusal_text(uint32_t answer)
     case LAX_EASING_PARAMETER: return "a parameter of the easing is not finite or beyond its limit";
     case LAX_RECORD_BREAKS_LIMIT: return "the tween or the track breaks a limit";
     case LAX_STEP_TOO_LONG: return "the step is above 16,777,216 s";
-    case LAX_STEP_LOST: return "the step is above 0, and the f32 sum does not show it";
+    case LAX_STEP_LOST: return "lost time: the f32 sum would be off by more than an eighth of what the step adds";
     case LAX_TOO_MANY_FOLDS: return "the step needs more than 4,096 folds";
     case LAX_ELAPSED_TOO_LONG: return "the elapsed of a track without an end would pass 16,777,216 s";
     case LAX_TRACK_FULL: return "the track has 64 frames, and none of them at this time";

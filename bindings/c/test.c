@@ -61,6 +61,7 @@ int main(void)
     test_easings();
     test_tweens();
     test_tracks();
+    test_carry();
     test_logs();
     test_replays();
     test_refusals();

@@ -27,6 +27,7 @@ int not_found(found_answer f, uint32_t number);
 void test_easings(void);
 void test_tweens(void);
 void test_tracks(void);
+void test_carry(void);
 void test_logs(void);
 void test_replays(void);
 void test_refusals(void);

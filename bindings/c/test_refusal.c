@@ -8,7 +8,7 @@ void test_refusals(void)
     uint32_t n;
 
     CHECK(says(LAX_OK, "the call was accepted"));
-    CHECK(says(LAX_STEP_LOST, "the step is above 0, and the f32 sum does not show it"));
+    CHECK(says(LAX_STEP_LOST, "lost time: the f32 sum would be off by more than an eighth of what the step adds"));
     CHECK(says(LAX_WRONG_RECORD, "the record's kind, zero byte or step is wrong"));
     CHECK(says(easing_named(38).number, "a word is no kind, mode, state or event, or no number of a record"));
     for (n = 0; n < 200; n++) {

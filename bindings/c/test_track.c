@@ -314,6 +314,49 @@ static void updates_refuse(void)
     CHECK(stopped(track_update(t, INFINITY), LAX_STEP_TOO_LONG, t));
 }
 
+/* Whether a step is refused with 6 at this elapsed, in this mode. */
+static int lost(uint32_t mode, float elapsed, float step)
+{
+    lax_track t = pair(mode, 3);
+    t.elapsed = elapsed;
+    return stopped(track_update(t, step), LAX_STEP_LOST, t);
+}
+
+/* What a step adds to an elapsed of an endless track. */
+static float grown(float elapsed, float step)
+{
+    lax_track t = pair(LAX_FOREVER, 0);
+    track_updated_answer u;
+    t.elapsed = elapsed;
+    u = track_update(t, step);
+    return u.number == LAX_OK && u.running == 1 ? u.track.elapsed - elapsed : -1.0f;
+}
+
+static float of_bits(uint32_t bits)
+{
+    float x;
+    memcpy(&x, &bits, sizeof x);
+    return x;
+}
+
+/* Off by more than an eighth, and by an eighth. */
+static void updates_off(void)
+{
+    uint32_t mode;
+    for (mode = LAX_ONCE; mode <= LAX_PING_PONG_TIMES; mode++) {
+        CHECK(lost(mode, 65536.0f, 0.02f) && lost(mode, 131072.0f, 0.02f));
+        CHECK(lost(mode, 262144.0f, 0.02f)); /* too fast: 0.03125 */
+    }
+    CHECK(lost(LAX_FOREVER, 16777215.0f, 4.0f)); /* 6 comes before 8 */
+    CHECK(lost(LAX_ONCE, 2.0f, 1e-9f));          /* at the total */
+    CHECK(grown(65536.0f - 1.0f / 256.0f, 8.0f / 256.0f) == 9.0f / 256.0f);
+    CHECK(grown(8388608.0f, 4.5f) == 4.0f && grown(8388609.0f, 4.5f) == 5.0f);
+    CHECK(lost(LAX_FOREVER, 8388608.0f, 3.5f) && lost(LAX_FOREVER, 8388609.0f, 3.5f));
+    CHECK(grown(of_bits(0x01000001), of_bits(5)) == of_bits(6)); /* the eighth is rounded too */
+    CHECK(grown(16777215.0f, 1.0f) == 1.0f && grown(4194303.0f, 1.0f) == 1.0f);
+    CHECK(grown(8388609.0f, 8388607.0f) == 8388607.0f && grown(LIMIT, 0.0f) == 0.0f);
+}
+
 /* With no search that did not settle. */
 static int filled(filled_answer f, uint32_t number, size_t n)
 {
@@ -466,6 +509,7 @@ void test_tracks(void)
     seeks();
     updates();
     updates_refuse();
+    updates_off();
     searches();
     batches();
     limits();

@@ -124,6 +124,51 @@ static void updates(void)
     CHECK(u.number == LAX_UNKNOWN_WORD && same(u.tween, t));
 }
 
+/* What a step makes of a Running tween's elapsed, or -1 where it is refused with 6. */
+static float run_by(float duration, float scale, float elapsed, float step)
+{
+    lax_tween t = ramp(duration, LAX_ONCE, 0);
+    updated_answer u;
+    t.time_scale = scale;
+    t.elapsed = elapsed;
+    u = tween_update(t, step);
+    return u.number == LAX_STEP_LOST && same(u.tween, t) ? -1.0f : u.tween.elapsed;
+}
+
+/* The same of an Idle tween's delay_elapsed. */
+static float wait_by(float scale, float delay_elapsed, float step)
+{
+    lax_tween t = ramp(4.0f, LAX_ONCE, 0);
+    updated_answer u;
+    t.time_scale = scale;
+    t.delay = 262145.0f;
+    t.delay_elapsed = delay_elapsed;
+    t.state = LAX_IDLE;
+    u = tween_update(t, step);
+    return u.number == LAX_STEP_LOST && same(u.tween, t) ? -1.0f : u.tween.delay_elapsed;
+}
+
+/* Off by more than an eighth of what a step adds. */
+static void updates_off(void)
+{
+    const uint32_t one = 1;
+    float least;
+    memcpy(&least, &one, sizeof least);
+    CHECK(run_by(16777216.0f, 1.0f, 131072.0f, 0.02f) == -1.0f);
+    CHECK(run_by(16777216.0f, 1.0f, 262144.0f, 0.02f) == -1.0f); /* too fast: 0.03125 */
+    CHECK(run_by(16777216.0f, 2.0f, 262144.0f, 0.02f) == -1.0f);
+    CHECK(run_by(16777216.0f, 6.25f, 262144.0f, 0.02f) == 262144.125f);
+    CHECK(run_by(1.0f, 0.5f, 0.0f, least) == -1.0f); /* the product vanishes */
+    CHECK(run_by(1.0f, 1.0f, 0.0f, least) == least);
+    CHECK(run_by(16777216.0f, 1.0f, 262144.0f, 0.0f) == 262144.0f);
+    CHECK(run_by(16777216.0f, 0.0f, 262144.0f, 0.02f) == 262144.0f);
+    CHECK(run_by(262144.0f, 1.0f, 262144.0f, 0.02f) == 262144.0f); /* at its end */
+    CHECK(run_by(16777216.0f, 1.0f, 16777215.0f, 1.0f) == 16777216.0f);
+    CHECK(wait_by(6.25f, 131072.0f, 0.02f) == -1.0f && wait_by(0.0f, 262144.0f, 0.02f) == -1.0f);
+    CHECK(wait_by(1.0f, 262144.0f, 0.0f) == 262144.0f && wait_by(1.0f, 262144.0f, 0.125f) == 262144.125f);
+    CHECK(wait_by(0.5f, 262144.0f, 2.0f) == 262146.0f);
+}
+
 static void runs(void)
 {
     lax_tween t = ramp(4.0f, LAX_FOREVER, 0);
@@ -156,5 +201,6 @@ void test_tweens(void)
     searches();
     changes();
     updates();
+    updates_off();
     runs();
 }

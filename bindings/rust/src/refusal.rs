@@ -10,7 +10,8 @@ macro_rules! refusals {
         /// use laxombiit::Refusal;
         ///
         /// assert_eq!(Refusal::StepLost.number(), 6);
-        /// assert_eq!(Refusal::StepLost.to_string(), "refused 6: the step is above 0, and the f32 sum does not show it");
+        /// let text = "lost time: the f32 sum would be off by more than an eighth of what the step adds";
+        /// assert_eq!(Refusal::StepLost.to_string(), format!("refused 6: {text}"));
         /// assert_eq!(Refusal::try_from(6), Ok(Refusal::StepLost));
         /// assert!(Refusal::try_from(0).is_err());
         /// ```
@@ -49,7 +50,7 @@ refusals! {
     3 EasingParameter "a parameter of the easing is not finite or beyond its limit"
     4 RecordBreaksLimit "the tween or the track breaks a limit"
     5 StepTooLong "the step is above 16,777,216 s"
-    6 StepLost "the step is above 0, and the f32 sum does not show it"
+    6 StepLost "lost time: the f32 sum would be off by more than an eighth of what the step adds"
     7 TooManyFolds "the step needs more than 4,096 folds"
     8 ElapsedTooLong "the elapsed of a track without an end would pass 16,777,216 s"
     9 TrackFull "the track has 64 frames, and none of them at this time"

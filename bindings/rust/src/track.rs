@@ -174,8 +174,9 @@ impl Track {
 
     /// Moves on by `step` seconds, and says whether the track still runs. NaN and what is below 0
     /// count as 0. A track that is complete, or has fewer than two frames, stays as it is. Refused,
-    /// and then unchanged: 5 for a step above 16,777,216, 6 for one that the sum does not show, 8
-    /// where `Forever` or `PingPong` would pass 16,777,216.
+    /// and then unchanged: 5 for a step above 16,777,216, 6 where the f32 sum would be off by more
+    /// than an eighth of it, 8 where `Forever` or `PingPong` would pass 16,777,216. What an accepted
+    /// step adds is rounded too: the manual says what to carry.
     ///
     /// ```
     /// use laxombiit::Track;

@@ -178,8 +178,8 @@ impl Tween {
     }
 
     /// Moves on by `step` seconds; NaN and what is below 0 count as 0. Refused, and then
-    /// unchanged: 5 for a step above 16,777,216, 6 for one that the sum does not show, 7 for one
-    /// that needs more than 4,096 folds.
+    /// unchanged: 5 for a step above 16,777,216, 6 where the f32 sum would be off by more than an
+    /// eighth of what it adds, 7 for one that needs more than 4,096 folds.
     ///
     /// ```
     /// use laxombiit::{Loop, Refusal, Tween};

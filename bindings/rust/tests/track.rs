@@ -231,11 +231,56 @@ fn update_refuses_and_leaves_the_track() {
         assert_eq!(t, pair(looping, elapsed));
     };
     refused(524_288.0, Loop::Forever, 0.02, Refusal::StepLost);
+    refused(65_536.0, Loop::Forever, 0.02, Refusal::StepLost);
     refused(LIMIT, Loop::Forever, 1.0, Refusal::StepLost);
+    // it would count as 5, and pass the limit: 6 comes before 8
+    refused(LIMIT - 1.0, Loop::Forever, 4.0, Refusal::StepLost);
     refused(LIMIT, Loop::Forever, 2.0, Refusal::ElapsedTooLong);
     refused(LIMIT, Loop::PingPong, 2.0, Refusal::ElapsedTooLong);
     refused(0.0, Loop::Once, BEYOND, Refusal::StepTooLong);
     assert_eq!(Track::new().update(f32::INFINITY), Err(Refusal::StepTooLong));
+}
+
+/// Too slow, as 0.015625, and too fast, as 0.03125; in every mode, at the total and beyond it too.
+#[test]
+fn update_refuses_what_is_off_by_more_than_an_eighth() {
+    for looping in [Loop::Once, Loop::Times(3), Loop::Forever, Loop::PingPong, Loop::PingPongTimes(3)] {
+        for elapsed in [131_072.0, 262_144.0] {
+            let mut t = pair(looping, elapsed);
+            assert_eq!((t.update(0.02), t), (Err(Refusal::StepLost), pair(looping, elapsed)));
+        }
+    }
+    let mut done = pair(Loop::Once, 2.0);
+    assert_eq!(done.update(1e-9), Err(Refusal::StepLost));
+    assert_eq!((done.update(0.0), done.update(1e-9), done.complete()), (Ok(false), Ok(false), true));
+    let mut few = Track::from_parts(&[linear(1.0, 3.0)], 262_144.0, Loop::Forever, 0, false).unwrap();
+    assert_eq!(few.update(0.02), Ok(false));
+}
+
+#[test]
+fn update_takes_what_is_off_by_an_eighth() {
+    let grown = |elapsed: f32, step: f32| {
+        let mut t = pair(Loop::Forever, elapsed);
+        t.update(step).map(|_| t.elapsed() - elapsed)
+    };
+    // 8 as 9, up to where the distance doubles
+    assert_eq!(grown(65_536.0 - 1.0 / 256.0, 8.0 / 256.0), Ok(9.0 / 256.0));
+    // 4 and a half as 4 and as 5, which is off by a ninth; 3 and a half would be off by a seventh
+    let (even, odd) = (8_388_608.0, 8_388_609.0);
+    assert_eq!((grown(even, 4.5), grown(odd, 4.5)), (Ok(4.0), Ok(5.0)));
+    assert_eq!((grown(even, 3.5), grown(odd, 3.5)), (Err(Refusal::StepLost), Err(Refusal::StepLost)));
+    // an eighth of 5 of the least number is 1 of them, rounded
+    assert_eq!(grown(f32::from_bits(0x0100_0001), f32::from_bits(5)), Ok(f32::from_bits(6)));
+}
+
+#[test]
+fn whole_steps_are_never_lost() {
+    for (elapsed, step) in
+        [(16_777_215, 1), (8_388_609, 8_388_607), (1, 16_777_215), (4_194_303, 1), (LIMIT as u32, 0)]
+    {
+        let mut t = pair(Loop::Forever, elapsed as f32);
+        assert_eq!((t.update(step as f32), t.elapsed()), (Ok(true), (elapsed + step) as f32));
+    }
 }
 
 #[test]

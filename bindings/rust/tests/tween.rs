@@ -125,6 +125,54 @@ fn update_refuses() {
     assert_eq!(t.elapsed, 8_388_608.0);
 }
 
+/// The elapsed that a step leaves to a Running tween of this duration and scale.
+fn runs(duration: f32, time_scale: f32, elapsed: f32, step: f32) -> Result<f32, Refusal> {
+    let mut t = Tween { time_scale, elapsed, ..ramp(duration, Loop::Once) };
+    t.update(step).map(|_| t.elapsed)
+}
+
+#[test]
+fn update_refuses_what_is_off_by_more_than_an_eighth() {
+    let long = 16_777_216.0;
+    // too slow, and too fast
+    assert_eq!(runs(long, 1.0, 131_072.0, 0.02), Err(Refusal::StepLost));
+    assert_eq!(runs(long, 1.0, 262_144.0, 0.02), Err(Refusal::StepLost));
+    // what is added is the step times the scale: 0.04 and 0.125
+    assert_eq!(runs(long, 2.0, 262_144.0, 0.02), Err(Refusal::StepLost));
+    assert_eq!(runs(long, 6.25, 262_144.0, 0.02), Ok(262_144.125));
+    assert_eq!(runs(long, 0.5, 65_536.0, 0.03125), Ok(65_536.015625));
+    // a product that vanishes
+    assert_eq!(runs(1.0, 0.5, 0.0, f32::from_bits(1)), Err(Refusal::StepLost));
+    assert_eq!(runs(1.0, 1.0, 0.0, f32::from_bits(1)), Ok(f32::from_bits(1)));
+    // no step, no scale, and an elapsed at its end
+    assert_eq!(runs(long, 1.0, 262_144.0, 0.0), Ok(262_144.0));
+    assert_eq!(runs(long, 0.0, 262_144.0, 0.02), Ok(262_144.0));
+    assert_eq!(runs(262_144.0, 1.0, 262_144.0, 0.02), Ok(262_144.0));
+    for (elapsed, step) in [(16_777_215, 1), (8_388_609, 8_388_607), (4_194_303, 1)] {
+        assert_eq!(runs(long, 1.0, elapsed as f32, step as f32), Ok((elapsed + step) as f32));
+    }
+}
+
+/// The delay is not scaled, and the step that ends it is judged by it alone.
+#[test]
+fn update_judges_an_idle_tween_by_its_delay() {
+    let waits = |delay_elapsed: f32, time_scale: f32, step: f32| {
+        let state = TweenState::Idle;
+        let mut t = Tween { delay: 262_145.0, delay_elapsed, state, time_scale, ..ramp(4.0, Loop::Once) };
+        t.update(step).map(|_| (t.delay_elapsed, t.elapsed, t.state))
+    };
+    for scale in [0.0, 1.0, 6.25] {
+        assert_eq!(waits(131_072.0, scale, 0.02), Err(Refusal::StepLost));
+        assert_eq!(waits(262_144.0, scale, 0.02), Err(Refusal::StepLost));
+        assert_eq!(waits(262_144.0, scale, 0.0), Ok((262_144.0, 0.0, TweenState::Idle)));
+        assert_eq!(waits(262_144.0, scale, 0.125), Ok((262_144.125, 0.0, TweenState::Idle)));
+    }
+    assert_eq!(waits(262_144.0, 0.5, 2.0), Ok((262_146.0, 0.5, TweenState::Running)));
+    let mut t = Tween { delay: 1.0, elapsed: 50.0, state: TweenState::Idle, ..ramp(100.0, Loop::Once) };
+    t.update(1.0 + f32::EPSILON).unwrap();
+    assert_eq!((t.delay_elapsed, t.elapsed, t.state), (1.0 + f32::EPSILON, 50.0, TweenState::Running));
+}
+
 #[test]
 fn run() {
     let mut t = ramp(4.0, Loop::Forever);
