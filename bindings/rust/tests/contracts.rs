@@ -85,6 +85,8 @@ fn tweens_that_change() {
     let mut endless = Tween { duration: 1.0, looping: Loop::Forever, ..tween() };
     assert_eq!(endless.update(0.5).unwrap().folds, 0);
     assert_eq!((endless.update(1.0).unwrap().folds, endless.loop_count), (1, 0));
+    let mut doubled = Tween { duration: 16.0, time_scale: 2.0, elapsed: 1.0, ..tween() };
+    assert_eq!((doubled.update(1.0).unwrap().folds, doubled.elapsed), (0, 3.0));
 }
 
 #[test]
@@ -136,6 +138,8 @@ fn clocks_of_tracks() {
     assert_eq!(short.loop_count(), 3);
     let mut late = track(&[(0.0, 0.0), (1.0, 8.0)], Loop::Once, 2.0);
     assert_eq!(late.update(16_777_216.0), Ok(false));
+    let mut fast = track(&[(0.0, 0.0), (1.0, 8.0)], Loop::Forever, 262_144.0);
+    assert_eq!((refused(fast.update(0.02)), fast.elapsed()), (Some(6), 262_144.0));
     assert_eq!(ramp(Loop::PingPong, 3.5).active_time(), Ok(0.5));
     assert_eq!(ramp(Loop::Forever, 3.0).active_time(), Ok(1.0));
     assert_eq!(ramp(Loop::Times(3), 0.0).duration(), Ok(2.0));
