@@ -142,12 +142,9 @@ fn edge_track(list: &mut List, plain: &LaxTrack) {
 
 /// Where a step is lost, and where elapsed would pass its limit.
 fn late_tracks(list: &mut List) {
-    for mode in 0..5 {
-        for elapsed in [524_288.0, BELOW_LIMIT, LIMIT] {
-            for step in [0.02, 2.0, 4.0] {
-                late_track(list, elapsed, mode, step);
-            }
-        }
+    let ends = [(524_288.0, 0.02), (524_288.0, 2.0), (BELOW_LIMIT, 4.0), (LIMIT, 0.02), (LIMIT, 2.0)];
+    for (mode, (elapsed, step)) in (0..5).flat_map(|mode| ends.map(|end| (mode, end))) {
+        late_track(list, elapsed, mode, step);
     }
     for (elapsed, step) in LATE[..3].iter().flat_map(|elapsed| FRAMES.map(|step| (*elapsed, step))) {
         late_track(list, elapsed, FOREVER, step);
@@ -158,20 +155,22 @@ fn late_track(list: &mut List, elapsed: f32, mode: u32, step: f32) {
     list.add(&Input::Track(Box::new(moving(elapsed, mode)), TrackCall::Update(step)));
 }
 
-/// Where a step begins or ceases to be lost, at each of the three sums that it may be lost in.
+/// Where a step begins or ceases to be lost, and one of which the scale leaves nothing.
 fn lost_steps(list: &mut List) {
-    let small = [3, 5].map(|units| (SMALL, f32::from_bits(units)));
-    for (clock, add) in at_turns(ODD).chain(at_turns(BELOW_POWER)).chain(small) {
-        list.add(&Input::Tween(idle(clock), TweenCall::Update(add)));
-        list.add(&Input::Tween(running(clock, 1.0), TweenCall::Update(add)));
-        late_track(list, clock, FOREVER, add);
+    for clock in [ODD, BELOW_POWER] {
+        turns(clock).for_each(|add| each_sum(list, clock, add));
     }
-    // the product vanishes
+    for units in [3, 5] {
+        each_sum(list, SMALL, f32::from_bits(units));
+    }
     list.add(&Input::Tween(running(0.0, 0.5), TweenCall::Update(f32::from_bits(1))));
 }
 
-fn at_turns(clock: f32) -> impl Iterator<Item = (f32, f32)> {
-    turns(clock).map(move |add| (clock, add))
+/// Within a delay, behind it, and on a track.
+fn each_sum(list: &mut List, clock: f32, add: f32) {
+    list.add(&Input::Tween(idle(clock), TweenCall::Update(add)));
+    list.add(&Input::Tween(running(clock, 1.0), TweenCall::Update(add)));
+    late_track(list, clock, FOREVER, add);
 }
 
 /// The calls that hand such a track back are few, since each holds all its frames.
