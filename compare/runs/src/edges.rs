@@ -1,6 +1,7 @@
 //! The edges, one by one: each word of some plain records at each edge, in every call; each argument at
 //! each edge. The same in every run.
 mod log;
+pub mod lost;
 mod replay;
 
 use crate::input::Input;
@@ -22,7 +23,8 @@ const COUNTS: [u32; 24] = [
 const TWEENS: u64 = 5 * 4;
 const TRACKS: u64 = 5 * FRAME_COUNTS.len() as u64;
 const RECORDS: u64 = 1 + TWEENS + TRACKS;
-const LOGS: u64 = RECORDS + log::PARTS;
+const LOST: u64 = RECORDS;
+const LOGS: u64 = LOST + 1 + log::PARTS;
 pub const PARTS: u64 = LOGS + replay::PARTS;
 
 /// The parts that are replays.
@@ -32,7 +34,8 @@ pub fn part(part: u64, runner: &mut Runner) -> Tried<()> {
     match part {
         0 => easings(runner),
         1..=TWEENS => tweens(&plain_tween((part as u32 - 1) / 4, (part as u32 - 1) % 4), runner),
-        RECORDS..LOGS => log::part(part - RECORDS, runner),
+        LOST => lost::steps(runner),
+        RECORDS..LOGS => log::part(part - LOST - 1, runner),
         LOGS.. => replay::part(part - LOGS, runner),
         _ => {
             let place = (part - 1 - TWEENS) as u32;

@@ -23,6 +23,8 @@ mod search;
 mod shrink;
 mod subjects;
 mod tally;
+#[cfg(test)]
+mod tests;
 mod words;
 
 use std::env;

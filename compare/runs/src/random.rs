@@ -1,8 +1,9 @@
-//! Random cases: a call of an easing, or a history of calls on one record; behind every fourth, calls of a log.
-//! The replays are cases of their own.
+//! Random cases: a call of an easing, or a history of calls on one record; behind every fourth, calls of a log, and
+//! behind every fourth, steps that are lost or nearly so. The replays are cases of their own.
 use crate::input::{After, Input};
 use crate::log::HEAD;
 use crate::make::{Maker, WRITTEN, written};
+use crate::rules::LIMIT;
 use crate::runner::{Runner, Tried};
 use crate::subjects::*;
 use crate::words::{LaxTrack, LaxTween, Words};
@@ -20,6 +21,9 @@ pub fn part(seed: u64, part: u64, runner: &mut Runner) -> Tried<()> {
         }
         if maker.once_in(4) {
             logs(&mut maker, runner)?;
+        }
+        if maker.once_in(4) {
+            lost_steps(&mut maker, runner)?;
         }
     }
     Ok(())
@@ -133,6 +137,21 @@ fn logs(maker: &mut Maker, runner: &mut Runner) -> Tried<()> {
     for _ in 0..4 {
         let (buffer, written, event) = (log.buffer.clone(), log.written, maker.event());
         runner.check(made, Input::Log(LogCall::Record { buffer, written, event }))?;
+    }
+    Ok(())
+}
+
+/// Each from another clock.
+fn lost_steps(maker: &mut Maker, runner: &mut Runner) -> Tried<()> {
+    let (tween, mut track) = (maker.tween(), maker.track());
+    track.complete = 0;
+    for _ in 0..12 {
+        let tween = maker.clocked(&tween);
+        let call = TweenCall::Update(maker.lost_step(&tween));
+        runner.check("tween, steps nearly lost", Input::Tween(tween, call))?;
+        track.elapsed = maker.clock(LIMIT);
+        let call = TrackCall::Update(maker.nearly_lost(track.elapsed));
+        runner.check("track, steps nearly lost", Input::Track(track.clone(), call))?;
     }
     Ok(())
 }

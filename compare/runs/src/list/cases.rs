@@ -1,5 +1,6 @@
 //! Which cases the list has: edges, and random ones of a fixed seed.
 use super::written::List;
+use crate::edges::lost::{BELOW_LIMIT, BELOW_POWER, FRAMES, LATE, ODD, SMALL, idle, moving, running, turns};
 use crate::edges::{plain_track, plain_tween, track_calls, tween_calls};
 use crate::input::{After, Input};
 use crate::make::Maker;
@@ -54,6 +55,7 @@ pub fn all(list: &mut List) {
     edge_track(list, &LaxTrack { count: 65, ..plain_track(ONCE, 64) });
     edge_track(list, &LaxTrack { looping: LaxLoop { mode: 5, passes: 1 }, ..plain });
     late_tracks(list);
+    lost_steps(list);
     for (mode, count) in [(FOREVER, 63), (ONCE, 64), (PING_PONG_TIMES, 64)] {
         long_track(list, &plain_track(mode, count));
     }
@@ -140,14 +142,35 @@ fn edge_track(list: &mut List, plain: &LaxTrack) {
 
 /// Where a step is lost, and where elapsed would pass its limit.
 fn late_tracks(list: &mut List) {
-    for mode in 0..5 {
-        for elapsed in [524_288.0, LIMIT] {
-            let track = LaxTrack { elapsed, ..plain_track(mode, 2) };
-            for step in [0.02, 2.0] {
-                list.add(&Input::Track(Box::new(track), TrackCall::Update(step)));
-            }
-        }
+    let ends = [(524_288.0, 0.02), (524_288.0, 2.0), (BELOW_LIMIT, 4.0), (LIMIT, 0.02), (LIMIT, 2.0)];
+    for (mode, (elapsed, step)) in (0..5).flat_map(|mode| ends.map(|end| (mode, end))) {
+        late_track(list, elapsed, mode, step);
     }
+    for (elapsed, step) in LATE[..3].iter().flat_map(|elapsed| FRAMES.map(|step| (*elapsed, step))) {
+        late_track(list, elapsed, FOREVER, step);
+    }
+}
+
+fn late_track(list: &mut List, elapsed: f32, mode: u32, step: f32) {
+    list.add(&Input::Track(Box::new(moving(elapsed, mode)), TrackCall::Update(step)));
+}
+
+/// Where a step begins or ceases to be lost, and one of which the scale leaves nothing.
+fn lost_steps(list: &mut List) {
+    for clock in [ODD, BELOW_POWER] {
+        turns(clock).for_each(|add| each_sum(list, clock, add));
+    }
+    for units in [3, 5] {
+        each_sum(list, SMALL, f32::from_bits(units));
+    }
+    list.add(&Input::Tween(running(0.0, 0.5), TweenCall::Update(f32::from_bits(1))));
+}
+
+/// Within a delay, behind it, and on a track.
+fn each_sum(list: &mut List, clock: f32, add: f32) {
+    list.add(&Input::Tween(idle(clock), TweenCall::Update(add)));
+    list.add(&Input::Tween(running(clock, 1.0), TweenCall::Update(add)));
+    late_track(list, clock, FOREVER, add);
 }
 
 /// The calls that hand such a track back are few, since each holds all its frames.

@@ -88,7 +88,7 @@ impl Maker {
 
     /// The same or a few floats away, on either side.
     pub fn near(&mut self, x: f32) -> f32 {
-        f32::from_bits((x.to_bits() + self.below(5)).saturating_sub(2))
+        f32::from_bits(x.to_bits().saturating_add(self.below(5)).saturating_sub(2))
     }
 
     /// A value within its limit, or the limit itself.

@@ -2,6 +2,7 @@
 mod easings;
 mod floats;
 mod logs;
+mod lost;
 mod ramps;
 mod replays;
 mod tracks;
@@ -9,6 +10,7 @@ mod tweens;
 
 pub use floats::EDGES;
 pub use logs::{LAST_NUMBERS, Log};
+pub use lost::{TURNS, spacing};
 pub use ramps::RampLog;
 pub use replays::{WRITTEN, set_bits, set_number, written};
 pub use tracks::FRAME_COUNTS;

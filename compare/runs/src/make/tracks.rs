@@ -148,7 +148,7 @@ impl Maker {
             0 => last - t.elapsed,
             1 => total - t.elapsed,
             2 => LIMIT - t.elapsed,
-            3 => t.elapsed.abs() * f32::EPSILON * self.part(),
+            3 => self.nearly_lost(t.elapsed),
             4 => last * self.below(5) as f32,
             5 => last * self.part(),
             6 => return self.odd(),

@@ -95,25 +95,43 @@ impl Maker {
         }
     }
 
+    /// Idle or running, with another clock.
+    pub fn clocked(&mut self, t: &LaxTween) -> LaxTween {
+        let span = self.pick(&[1.0, 1000.0, LIMIT]);
+        if self.once_in(2) {
+            LaxTween { state: IDLE, delay: span, delay_elapsed: self.clock(span), ..*t }
+        } else {
+            LaxTween { state: RUNNING, duration: span, elapsed: self.clock(span), ..*t }
+        }
+    }
+
+    /// A step that is lost or nearly so; one in eight is so small that the scale may leave nothing of it.
+    pub fn lost_step(&mut self, t: &LaxTween) -> f32 {
+        match t.state {
+            _ if self.once_in(8) => f32::from_bits(self.below(20)),
+            IDLE => self.nearly_lost(t.delay_elapsed),
+            _ => to_scale(t, self.nearly_lost(t.elapsed)),
+        }
+    }
+
     /// A step for this tween: near the end of a pass, of the delay or of 4,096 folds, or lost, or any.
     pub fn step(&mut self, t: &LaxTween) -> f32 {
-        let to_scale = |secs: f32| if t.time_scale > 0.0 { secs / t.time_scale } else { secs };
         let pass = if t.duration.is_finite() { t.duration } else { 1.0 };
         let waiting = if t.state == IDLE { t.delay - t.delay_elapsed } else { 0.0 };
         let moved = match self.below(12) {
             0 => pass - t.elapsed,
             1 => pass * self.below(8) as f32,
             2 => pass * (4_093 + self.below(7)) as f32 - t.elapsed,
-            3 => t.elapsed.abs() * f32::EPSILON * self.part(),
+            3 => self.nearly_lost(t.elapsed),
             4 => self.part() * pass,
             5 => pass * 60.0 * self.part(),
             6 => return self.below(6) as f32,
             7 => return self.odd(),
             8 => return self.up_to(16_777_216.0),
-            9 => return t.delay_elapsed.abs() * f32::EPSILON * self.part(),
+            9 => return self.lost_step(t),
             _ => return self.part(),
         };
-        let step = waiting + to_scale(moved);
+        let step = waiting + to_scale(t, moved);
         if self.once_in(2) && step > 0.0 { self.near(step) } else { step }
     }
 
@@ -146,4 +164,9 @@ impl Maker {
             _ => length,
         }
     }
+}
+
+/// The step that the scale makes so long.
+fn to_scale(t: &LaxTween, moved: f32) -> f32 {
+    if t.time_scale > 0.0 { moved / t.time_scale } else { moved }
 }

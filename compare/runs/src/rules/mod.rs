@@ -2,6 +2,7 @@
 mod easing;
 mod kinds;
 mod log;
+mod lost;
 mod replay;
 mod track;
 mod tween;
@@ -9,6 +10,7 @@ mod tween;
 pub use easing::*;
 pub use kinds::*;
 pub use log::*;
+pub use lost::is_lost;
 pub use replay::*;
 pub use track::*;
 pub use tween::*;

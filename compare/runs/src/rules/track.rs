@@ -93,7 +93,7 @@ pub fn track_update_refused(t: &LaxTrack, step: f32) -> u32 {
         t,
         &[
             (5, &|| step > LIMIT),
-            (6, &|| moves && counted(step) > 0.0 && sum == t.elapsed),
+            (6, &|| moves && counted(step) > 0.0 && is_lost(t.elapsed, counted(step))),
             (8, &|| moves && endless && sum > LIMIT),
         ],
     )

@@ -1,4 +1,4 @@
-use super::{LIMIT, Rule, counted, easing_fits, easing_unknown, first, is_between, is_value};
+use super::{LIMIT, Rule, counted, easing_fits, easing_unknown, first, is_between, is_lost, is_value};
 use crate::words::{LaxLoop, LaxTween};
 
 const MODES: u32 = 5;
@@ -51,14 +51,14 @@ pub fn tween_breaks(t: &LaxTween) -> bool {
     !settings || !clock || t.loop_count > LIMIT as u32
 }
 
-/// The sum that a step above 0 adds to is still what it was.
+/// A step above 0 is lost in the sum that it adds to: within the delay as it is, behind it scaled.
 fn step_lost(t: &LaxTween, step: f32) -> bool {
     let step = counted(step);
     step > 0.0
         && match t.state {
-            IDLE => t.delay_elapsed + step == t.delay_elapsed,
+            IDLE => is_lost(t.delay_elapsed, step),
             RUNNING => {
-                t.time_scale > 0.0 && t.elapsed < t.duration && t.elapsed + step * t.time_scale == t.elapsed
+                t.time_scale > 0.0 && t.elapsed < t.duration && is_lost(t.elapsed, step * t.time_scale)
             }
             _ => false,
         }
