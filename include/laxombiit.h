@@ -41,7 +41,7 @@ extern "C" {
 #endif
 
 /* The header's version, the programs' and the Rust crate's. */
-#define LAX_VERSION "0.5.0"
+#define LAX_VERSION "0.6.0"
 
 /* The two parts of what a call returns: the refusal's number, and a frame of a track, counted from 0. No
  * call of this version tells a frame, and the second part is 0. */
