@@ -32,7 +32,9 @@ UpdateSixExactly =
 -- document 01's rule, which request 5 corrects: "step > 0 and either Idle with the delay sum equal to delay_elapsed, or Running with scale > 0, elapsed < duration and the sum equal to elapsed"
 abbrev pub standsStill : TweenState → Tween → Float → Bool
 standsStill Idle t x = lt zeroF x && eq (t .«delay_elapsed» ⊕ x) (t .«delay_elapsed»)
-standsStill Running t x = lt zeroF x && lt zeroF (t .«time_scale») && lt (t .elapsed) (t .duration) && eq (t .elapsed ⊕ x ⊗ t .«time_scale») (t .elapsed)
+standsStill Running t x =
+    lt zeroF x && lt zeroF (t .«time_scale») && lt (t .elapsed) (t .duration)
+    && eq (t .elapsed ⊕ x ⊗ t .«time_scale») (t .elapsed)
 standsStill Paused t x = false
 standsStill Completed t x = false
 

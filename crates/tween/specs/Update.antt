@@ -80,7 +80,9 @@ waiting t w =
 -- "Step lost (added): step > 0 and either Idle [..], or Running with scale > 0, elapsed < duration [..]". Request 5: "Where the rule now asks that the sum equal the old number", what was to be added is lost there: while Idle the step, while Running the step times scale
 abbrev pub lostOf : TweenState → Tween → Float → Float → Bool
 lostOf Idle t x sum = lt zeroF x && lostBy (t .«delay_elapsed») x sum
-lostOf Running t x sum = lt zeroF x && lt zeroF (t .«time_scale») && lt (t .elapsed) (t .duration) && lostBy (t .elapsed) (x ⊗ t .«time_scale») sum
+lostOf Running t x sum =
+    lt zeroF x && lt zeroF (t .«time_scale») && lt (t .elapsed) (t .duration)
+    && lostBy (t .elapsed) (x ⊗ t .«time_scale») sum
 lostOf Paused t x sum = false
 lostOf Completed t x sum = false
 
