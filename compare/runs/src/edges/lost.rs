@@ -31,9 +31,9 @@ pub const BELOW_POWER: f32 = f32::from_bits(0x48ff_ffff);
 pub const BELOW_LIMIT: f32 = 16_777_215.0;
 pub const SMALL: f32 = f32::from_bits(0x0100_0001);
 
-/// Where a step of a frame's length is lost, or shows as another.
+/// From the late clocks some of the usual steps are lost.
 pub const LATE: [f32; 4] = [65_536.0, 131_072.0, 262_144.0, 524_288.0];
-pub const FRAMES: [f32; 4] = [0.01, 1.0 / 60.0, 0.02, 0.1];
+pub const USUAL: [f32; 4] = [0.01, 1.0 / 60.0, 0.02, 0.1];
 
 pub fn steps(runner: &mut Runner) -> Tried<()> {
     for clock in CLOCKS {
@@ -42,7 +42,7 @@ pub fn steps(runner: &mut Runner) -> Tried<()> {
             each_place(clock, f32::from_bits(add.to_bits().saturating_add_signed(near)), runner)?;
         }
     }
-    for (clock, add) in LATE.into_iter().flat_map(|clock| FRAMES.map(|add| (clock, add))) {
+    for (clock, add) in LATE.into_iter().flat_map(|clock| USUAL.map(|add| (clock, add))) {
         each_place(clock, add, runner)?;
     }
     for units in 1..20 {

@@ -1,6 +1,6 @@
 //! Which cases the list has: edges, and random ones of a fixed seed.
 use super::written::List;
-use crate::edges::lost::{BELOW_LIMIT, BELOW_POWER, FRAMES, LATE, ODD, SMALL, idle, moving, running, turns};
+use crate::edges::lost::{BELOW_LIMIT, BELOW_POWER, LATE, ODD, SMALL, USUAL, idle, moving, running, turns};
 use crate::edges::{plain_track, plain_tween, track_calls, tween_calls};
 use crate::input::{After, Input};
 use crate::make::Maker;
@@ -146,7 +146,7 @@ fn late_tracks(list: &mut List) {
     for (mode, (elapsed, step)) in (0..5).flat_map(|mode| ends.map(|end| (mode, end))) {
         late_track(list, elapsed, mode, step);
     }
-    for (elapsed, step) in LATE[..3].iter().flat_map(|elapsed| FRAMES.map(|step| (*elapsed, step))) {
+    for (elapsed, step) in LATE[..3].iter().flat_map(|elapsed| USUAL.map(|step| (*elapsed, step))) {
         late_track(list, elapsed, FOREVER, step);
     }
 }
