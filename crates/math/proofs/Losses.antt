@@ -55,7 +55,11 @@ whole-kept old add a b v w l h =
     let off : Is (sum ⊖ old ⊖ add) 0 = subst (Is (sum ⊖ old ⊖ add)) none (sub-exact binary32 (sum ⊖ old) add b b grown w (omega arith) (omega (arith, h))) in
     rw (eq-is sum old (a + b) a s v ∙ ne-eqb (a + b) a (λ q. omega (arith, q, l))) (not-off add (sum ⊖ old ⊖ add) b w off)
 
--- and where nothing is added, the rule's "step > 0" fails
+-- a float that is 0 is not above 0
+pub not-above : (x : Float) (n : ℕ) → Is x n → n ≡ 0 → lt zeroF x ≡ false
+not-above x n v z = lt-is zeroF x 0 n zero-is v ∙ le-ltb 0 n (omega (arith, z))
+
+-- so where nothing is added, the rule's "step > 0" fails
 pub step-kept : (old add : Float) (a b : ℕ) → Is old a → Is add b → a + b ≤ 16777216 → lt zeroF add && lostBy old add (old ⊕ add) ≡ false
 step-kept old add a b v w h =
-    ⊎-elim (λ z. rw (lt-is zeroF add 0 b zero-is w ∙ le-ltb 0 b (omega (arith, z)))) (λ l. ap (λ (c : Bool). lt zeroF add && c) (whole-kept old add a b v w l h) ∙ and-false (lt zeroF add)) (eq-zero-or-pos b)
+    ⊎-elim (λ z. rw (not-above add b w z)) (λ l. ap (λ (c : Bool). lt zeroF add && c) (whole-kept old add a b v w l h) ∙ and-false (lt zeroF add)) (eq-zero-or-pos b)

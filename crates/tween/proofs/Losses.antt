@@ -5,7 +5,6 @@ use native.Mathlib.Omega.{arith}
 use mathlib.Core.Path.{_≡_, refl, ap, _∙_, subst⁻¹}
 use mathlib.Core.Logic.{⊎-elim}
 use mathlib.Core.Bool.{Bool, true, false, not, cond, _&&_, and-false}
-use borrow.Author.Tests.{le-ltb}
 use lib.Dec.{T}
 use lib.Ieee.{Float, binary32, lt}
 use lib.Ieee.Bits.{is-true}
@@ -13,8 +12,8 @@ use Rattle.math.specs.Rounded.{zeroF, topF, _⊕_, _⊗_}
 use Rattle.math.specs.Range.{maxZeroOf}
 use Rattle.math.specs.Whole.{Is}
 use Rattle.math.proofs.Choice.{by-test, and-weaker}
-use Rattle.math.proofs.Wholes.{zero-is, lt-is, mul-exact}
-use Rattle.math.proofs.Losses.{still-lost as sum-still, whole-kept as sum-kept, step-kept}
+use Rattle.math.proofs.Wholes.{mul-exact}
+use Rattle.math.proofs.Losses.{still-lost as sum-still, whole-kept as sum-kept, not-above, step-kept}
 use Rattle.refusal.specs.declared.Refusal.the-variants.{RecordBreaksLimit, StepTooLong, StepLost}
 use Rattle.refusal.specs.Number.{numberOf}
 use Rattle.tween.specs.declared.record.Tween.{Tween}
@@ -82,10 +81,6 @@ still-lost Running t x h =
     and-weaker (lt zeroF x && lt zeroF (t .«time_scale») && lt (t .elapsed) (t .duration)) _ _ (sum-still (t .elapsed) (x ⊗ t .«time_scale») (t .elapsed ⊕ x ⊗ t .«time_scale»)) h
 still-lost Paused t x h = h
 still-lost Completed t x h = h
-
--- a float that is 0 is not above 0
-not-above : (x : Float) (n : ℕ) → Is x n → n ≡ 0 → lt zeroF x ≡ false
-not-above x n X z = lt-is zeroF x 0 n zero-is X ∙ le-ltb 0 n (omega (arith, z))
 
 -- while Running a product that is 0 has a factor that is not above 0
 run-kept : (t : Tween) (x : Float) (n e s : ℕ) → Is x n → Is (t .elapsed) e → Is (t .«time_scale») s → e + n * s ≤ 16777216 → losesStep Running t x ≡ false
