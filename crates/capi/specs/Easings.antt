@@ -1,5 +1,5 @@
 -- The calls of an easing: the easing read from its six words, the library's definition, and what goes into the lent place.
-use Rattle.std.specs.Prelude.{ℕ, Bool, false, not, List, [], ◌∷◌, ltb, eqb, length, get_or, Float}
+use Rattle.std.specs.Prelude.{ℕ, List, [], ◌∷◌, get_or, Float}
 use Rattle.math.specs.Bits.{bits_of}
 use Rattle.refusal.specs.Refusing.{unless}
 use Rattle.easing.specs.declared.kinds.Easing.{Easing}
@@ -7,11 +7,11 @@ use Rattle.easing.specs.declared.kinds.Easing.TheVariants.{Linear}
 use Rattle.easing.specs.declared.answers.Equality.{Equality}
 use Rattle.easing.specs.declared.answers.Equality.TheVariants as equality
 use Rattle.easing.specs.Kinds.{supplied_of, all_named}
-use Rattle.easing.specs.Apply.{apply_with, eq_of}
+use Rattle.easing.specs.Apply.{apply_of, eq_of}
 use Rattle.words.specs.declared.kinds.LaxEasing.{LaxEasing}
 use Rattle.words.specs.declared.kinds.EasingRead.{EasingRead}
 use Rattle.words.specs.declared.kinds.EasingRead.TheVariants.{Known, Unknown}
-use Rattle.words.specs.Kinds.{easing_from, easing_words}
+use Rattle.words.specs.Kinds.{is_kind, easing_from, easing_words}
 use Rattle.words.specs.Lent.{easing_at}
 use Rattle.capi.specs.Answers.{Answer, accepted, refused, unknown, found_in, flag_in}
 
@@ -19,15 +19,8 @@ abbrev pub on_easing : {A : Type 0} → EasingRead → A → (Easing → Answer 
 on_easing (Known e) came answer = answer e
 on_easing Unknown came answer = unknown came
 
-abbrev pub applied_in : List ℕ → Float → Bool → List ℕ → Answer (List ℕ)
-applied_in ws t before out = on_easing (easing_from (easing_at ws 0)) out (λ e. found_in out (apply_with before e t))
-
 unfoldable pub lax_easing_apply : List ℕ → Float → List ℕ → Answer (List ℕ)
-lax_easing_apply ws t out = applied_in ws t false out
-
--- Request 6: the before flag as a word. 0 is off, and any other is set
-unfoldable pub lax_easing_apply_with : List ℕ → Float → ℕ → List ℕ → Answer (List ℕ)
-lax_easing_apply_with ws t before out = applied_in ws t (not (eqb before 0)) out
+lax_easing_apply ws t out = on_easing (easing_from (easing_at ws 0)) out (λ e. found_in out (apply_of e t))
 
 unfoldable pub equality_in : ℕ → Equality → Answer ℕ
 equality_in out (equality.Equal b) = flag_in b
@@ -45,6 +38,6 @@ lax_easing_is_supplied ws out = on_easing (easing_from (easing_at ws 0)) out (λ
 abbrev pub easing_list : LaxEasing → List ℕ
 easing_list w = w.kind ∷ bits_of w.a ∷ bits_of w.b ∷ bits_of w.c ∷ bits_of w.d ∷ w.count ∷ []
 
--- a place of `all_named`; beyond 37 there is none
+-- a place beyond 37 is no kind
 unfoldable pub lax_easing_named : ℕ → List ℕ → Answer (List ℕ)
-lax_easing_named k out = unless (ltb k (length all_named)) (unknown out) (accepted (easing_list (easing_words (get_or all_named k Linear))))
+lax_easing_named k out = unless (is_kind k) (unknown out) (accepted (easing_list (easing_words (get_or all_named k Linear))))

@@ -1,7 +1,7 @@
 // The calls of an easing, lent as six words.
 ghost use Rattle.std.specs.Prelude.{◌≡◌};
 ghost use Rattle.capi.specs.Answers.{answering};
-ghost use Rattle.capi.specs.Easings.{applied_in, lax_easing_apply, lax_easing_apply_with, lax_easing_eq, lax_easing_is_supplied, lax_easing_named};
+ghost use Rattle.capi.specs.Easings.{lax_easing_apply, lax_easing_eq, lax_easing_is_supplied, lax_easing_named};
 
 use crate::answers::{UNKNOWN_WORD, put_flag, put_found, put_plain};
 use easing::{Eased, Easing, Equality};
@@ -10,11 +10,11 @@ use units::Progress;
 use words::{EasingRead, easing_in, easing_of, easing_words};
 
 // By way of the library's easing.
-fn apply_in(e: &[u32; 6], t: f32, before: bool, out: &mut [u32; 4]) -> u32
-    ensures { answering result out.new ≡ applied_in e.now t before out.old }
+fn apply_in(e: &[u32; 6], t: f32, out: &mut [u32; 4]) -> u32
+    ensures { answering result out.new ≡ lax_easing_apply e.now t out.old }
 {
     match easing_of(easing_in(e)) {
-        EasingRead::Known(easing) => put_found(easing.apply_with(Progress(t), before), out),
+        EasingRead::Known(easing) => put_found(easing.apply(Progress(t)), out),
         EasingRead::Unknown => UNKNOWN_WORD,
     }
 }
@@ -24,7 +24,7 @@ pub extern "C" fn lax_easing_apply(e: &[u32; 6], t: f32, out: &mut [u32; 4]) -> 
     ensures { answering result out.new ≡ lax_easing_apply e.now t out.old }
 {
     if math::is_nan(t) {
-        return apply_in(e, t, false, out);
+        return apply_in(e, t, out);
     }
     let u = math::clamp01(t);
     if let Drawn::At(v) = draw(e[0], u) {
@@ -33,20 +33,7 @@ pub extern "C" fn lax_easing_apply(e: &[u32; 6], t: f32, out: &mut [u32; 4]) -> 
     if let Searched::At(found) = search(e[0], e[1], e[2], e[3], e[4], u) {
         return put_found(Eased::Value(found), out);
     }
-    apply_in(e, t, false, out)
-}
-
-// before is 0 where the flag is off.
-#[unsafe(no_mangle)]
-pub extern "C" fn lax_easing_apply_with(
-    e: &[u32; 6],
-    t: f32,
-    before: u32,
-    out: &mut [u32; 4],
-) -> u32
-    ensures { answering result out.new ≡ lax_easing_apply_with e.now t before out.old }
-{
-    apply_in(e, t, before != 0, out)
+    apply_in(e, t, out)
 }
 
 #[unsafe(no_mangle)]

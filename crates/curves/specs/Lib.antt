@@ -5,6 +5,4 @@ pub mod Circ
 pub mod Back
 pub mod Bounce
 pub mod Stairs
-pub mod Jumps
-pub mod Rising
 pub mod Slow

@@ -15,20 +15,19 @@ use Rattle.easing.specs.declared.params.Params.{Params}
 use Rattle.easing.specs.declared.answers.Eased.{Eased}
 use Rattle.easing.specs.declared.answers.Eased.TheVariants.{Value, Refused}
 use Rattle.easing.specs.declared.answers.Equality.TheVariants as equality
-use Rattle.easing.specs.Kinds.{number_of, curve_with, curve_of, is_some, supplied_of}
+use Rattle.easing.specs.Kinds.{number_of, curve_of, is_some, supplied_of}
 use Rattle.easing.specs.Params.{no_params, params_of, within_of, equal_of}
-use Rattle.easing.specs.Apply.{limited_of, search_of, eased_at, apply_with, apply_of, fits_record_of, eq_of}
+use Rattle.easing.specs.Apply.{limited_of, search_of, eased_at, apply_of, fits_record_of, eq_of}
 use lib.Ieee.Fits.{and_l, and_r}
-use Rattle.easing.proofs.Flags.{flag-supplied}
 
 none_within : within_of no_params ≡ true
 unfolding within_of le lt eq of_bits
 none_within = refl
 
 -- b is whether t is NaN
-module _ (before : Bool) (e : Easing) (t : Float) (b : Bool) (eb : b ≡ is_nan t) where
-  pub no_number : b ≡ true → Refused ProgressIsNan ≡ apply_with before e t
-  unfolding apply_with
+module _ (e : Easing) (t : Float) (b : Bool) (eb : b ≡ is_nan t) where
+  pub no_number : b ≡ true → Refused ProgressIsNan ≡ apply_of e t
+  unfolding apply_of
   no_number h = rw (← eb, h)
 
   module _ (h : b ≡ false) where
@@ -36,18 +35,18 @@ module _ (before : Bool) (e : Easing) (t : Float) (b : Bool) (eb : b ≡ is_nan 
     none-refused none search fine u s = refl
     none-refused (some f) search fine u s = absurd (true≢false s)
 
-    pub not-supplied : supplied_of e ≡ false → Refused EasingNotSupplied ≡ apply_with before e t
-    unfolding apply_with supplied_of
-    not-supplied s = rw (← eb, h) (none-refused (curve_with before e) (search_of e) (within_of (params_of e)) (clamp01_of t) (flag-supplied before e ∙ s))
+    pub not-supplied : supplied_of e ≡ false → Refused EasingNotSupplied ≡ apply_of e t
+    unfolding apply_of supplied_of
+    not-supplied s = rw (← eb, h) (none-refused (curve_of e) (search_of e) (within_of (params_of e)) (clamp01_of t) s)
 
     -- at a kind x with no parameters, and with some
     module _ (u : Float) (eu : u ≡ clamp01_of t) (x : Easing) (ex : e ≡ x) where
-      pub bare : (v w : Float) (r : Eased) → v ≡ w → r ≡ Value (plain_of v) → params_of x ≡ no_params → eased_at (curve_with before x) (search_of x) true u ≡ Value (plain_of w) → r ≡ apply_with before e t
-      unfolding apply_with
+      pub bare : (v w : Float) (r : Eased) → v ≡ w → r ≡ Value (plain_of v) → params_of x ≡ no_params → eased_at (curve_of x) (search_of x) true u ≡ Value (plain_of w) → r ≡ apply_of e t
+      unfolding apply_of
       bare v w r ev er ep ec = er ∙ rw (← eb, h, ex, ep, none_within, ← eu, ec, ev)
 
-      pub with_params_lem : (f g : Found) (p : Params) (fine : Bool) (r : Eased) → f ≡ g → p ≡ params_of x → fine ≡ within_of p → r ≡ limited_of fine f → ((fine : Bool) → eased_at (curve_with before x) (search_of x) fine u ≡ limited_of fine g) → r ≡ apply_with before e t
-      unfolding apply_with
+      pub with_params_lem : (f g : Found) (p : Params) (fine : Bool) (r : Eased) → f ≡ g → p ≡ params_of x → fine ≡ within_of p → r ≡ limited_of fine f → ((fine : Bool) → eased_at (curve_of x) (search_of x) fine u ≡ limited_of fine g) → r ≡ apply_of e t
+      unfolding apply_of
       with_params_lem f g p fine r eg ep ef er ec = er ∙ ap (limited_of fine) eg ∙ sym (ec fine) ∙ rw (← eb, h, ex, ← ep, ← ef, ← eu)
 
 -- s and z say whether the two are supplied
@@ -68,7 +67,7 @@ module _ (x y : Easing) (s z : Bool) (es : s ≡ supplied_of x) (ez : z ≡ supp
 
 -- an easing that fits a record answers at any progress that is a number
 pub fits-answers : (e : Easing) (p : Float) → T (fits_record_of e) → is_nan p ≡ false → (f : Found) × (apply_of e p ≡ Value f)
-unfolding fits_record_of supplied_of apply_with
+unfolding fits_record_of supplied_of apply_of
 fits-answers e p f n =
     let k = go (curve_of e) (search_of e) (within_of (params_of e)) (clamp01_of p) (and_l (is_some (curve_of e)) (within_of (params_of e)) f) (and_r (is_some (curve_of e)) (within_of (params_of e)) f) in
     (k.0, rw n k.1)

@@ -17,8 +17,6 @@ use Rattle.curves.specs.Circ.{in_circ, out_circ, in_out_circ}
 use Rattle.curves.specs.Back.{in_back, out_back, in_out_back}
 use Rattle.curves.specs.Bounce.{in_bounce, out_bounce, in_out_bounce, custom_bounce}
 use Rattle.curves.specs.Stairs.{steps_of}
-use Rattle.curves.specs.Jumps.{jump_of, least_of}
-use Rattle.curves.proofs.Rising.{jump-within}
 use Rattle.bezier.specs.Bezier.{cubic_bezier}
 use Rattle.curves.proofs.Bounds.{in-power-most, out-power-most, in-out-power-most, in-back, out-back, in-out-back, in-bounce, out-bounce, in-out-bounce, custom-bounce-most, slow-mo-most, steps-within}
 use Rattle.curves.proofs.Circles.{circ-at-most}
@@ -27,12 +25,12 @@ use Rattle.bezier.proofs.Answers.{answer-at-most}
 use Rattle.refusal.specs.declared.Refusal.TheVariants.{ProgressIsNan}
 use Rattle.easing.specs.declared.answers.Eased.{Eased}
 use Rattle.easing.specs.declared.answers.Eased.TheVariants.{Value, Refused}
-use Rattle.easing.specs.Kinds.{curve_with}
+use Rattle.easing.specs.Kinds.{curve_of}
 use Rattle.easing.specs.Params.{limit_f, up_to_1024, params_of, within_of}
-use Rattle.easing.specs.Apply.{search_of, eased_at, apply_with}
+use Rattle.easing.specs.Apply.{search_of, eased_at, apply_of}
 use Rattle.easing.specs.Promises.{ApplyBounded, ApplyFinite}
 use Rattle.easing.specs.declared.kinds.Easing.{Easing}
-use Rattle.easing.specs.declared.kinds.Easing.TheVariants.{Linear, EaseInQuad, EaseOutQuad, EaseInOutQuad, EaseInCubic, EaseOutCubic, EaseInOutCubic, EaseInQuart, EaseOutQuart, EaseInOutQuart, EaseInQuint, EaseOutQuint, EaseInOutQuint, EaseInSine, EaseOutSine, EaseInOutSine, EaseInExpo, EaseOutExpo, EaseInOutExpo, EaseInCirc, EaseOutCirc, EaseInOutCirc, EaseInBack, EaseOutBack, EaseInOutBack, EaseInElastic, EaseOutElastic, EaseInOutElastic, EaseInBounce, EaseOutBounce, EaseInOutBounce, CubicBezier, Steps, RoughEase, SlowMo, Wiggle, CustomBounce, ExpoScale, Jump}
+use Rattle.easing.specs.declared.kinds.Easing.TheVariants.{Linear, EaseInQuad, EaseOutQuad, EaseInOutQuad, EaseInCubic, EaseOutCubic, EaseInOutCubic, EaseInQuart, EaseOutQuart, EaseInOutQuart, EaseInQuint, EaseOutQuint, EaseInOutQuint, EaseInSine, EaseOutSine, EaseInOutSine, EaseInExpo, EaseOutExpo, EaseInOutExpo, EaseInCirc, EaseOutCirc, EaseInOutCirc, EaseInBack, EaseOutBack, EaseInOutBack, EaseInElastic, EaseOutElastic, EaseInOutElastic, EaseInBounce, EaseOutBounce, EaseInOutBounce, CubicBezier, Steps, RoughEase, SlowMo, Wiggle, CustomBounce, ExpoScale}
 
 limit_is : Is limit_f 1024
 unfolding of_bits
@@ -45,12 +43,12 @@ abbrev Bounded : Option (Float → Float) → Float → Type 0
 Bounded none u = Unit {0}
 Bounded (some f) u = AtMost 134217728 (f u)
 
-module _ (before : Bool) (u : Float) (w : Within u) where
+module _ (u : Float) (w : Within u) where
   more : (n : ℕ) (x : Float) → n ≤ 134217728 → AtMost n x → AtMost 134217728 x
   more n x l h = at-most-more n 134217728 x l h
 
-  bounded : (e : Easing) → T (within_of (params_of e)) → Bounded (curve_with before e) u
-  unfolding curve_with within_of params_of
+  bounded : (e : Easing) → T (within_of (params_of e)) → Bounded (curve_of e) u
+  unfolding curve_of within_of params_of
   bounded Linear h = more 1 u (lit≤ tt) (within-at-most u w)
   bounded EaseInQuad h = more 1 (in_power quad u) (lit≤ tt) (in-power-most quad u w)
   bounded EaseOutQuad h = more 2 (out_power quad u) (lit≤ tt) (out-power-most quad u w)
@@ -89,7 +87,6 @@ module _ (before : Bool) (u : Float) (w : Within u) where
   bounded (Wiggle wiggles) h = tt
   bounded (CustomBounce strength) h = more 290 (custom_bounce u strength) (lit≤ tt) (custom-bounce-most u w strength (finite_number strength (search (and_l, and_r))))
   bounded (ExpoScale start end) h = tt
-  bounded (Jump p n) h = more 1 (jump_of p before u n) (lit≤ tt) (within-at-most (jump_of p before u n) (jump-within p before u n (leb→le (least_of p) n (search (and_l, and_r))) (leb→le n 65536 (search (and_l, and_r)))))
 
 abbrev Fine : Eased → Type 0
 Fine (Value f) = AtMost 134217728 f.value
@@ -100,14 +97,14 @@ eased-fine none search fine u h = tt
 eased-fine (some f) search true u h = h tt
 eased-fine (some f) search false u h = tt
 
-apply-fine : (before : Bool) (e : Easing) (t : Float) → Fine (apply_with before e t)
-unfolding apply_with
-apply-fine before e t =
-    by-test Fine (is_nan t) (Refused ProgressIsNan) (eased_at (curve_with before e) (search_of e) (within_of (params_of e)) (clamp01_of t)) (λ _. tt)
-    (λ h. eased-fine (curve_with before e) (search_of e) (within_of (params_of e)) (clamp01_of t) (bounded before (clamp01_of t) (clamped t h) e))
+apply-fine : (e : Easing) (t : Float) → Fine (apply_of e t)
+unfolding apply_of
+apply-fine e t =
+    by-test Fine (is_nan t) (Refused ProgressIsNan) (eased_at (curve_of e) (search_of e) (within_of (params_of e)) (clamp01_of t)) (λ _. tt)
+    (λ h. eased-fine (curve_of e) (search_of e) (within_of (params_of e)) (clamp01_of t) (bounded (clamp01_of t) (clamped t h) e))
 
 pub apply-bounded : ApplyBounded
-apply-bounded before e t f h = subst Fine h (apply-fine before e t)
+apply-bounded e t f h = subst Fine h (apply-fine e t)
 
 pub apply-finite : ApplyFinite
-apply-finite before e t f h = at-most-finite 134217728 f.value (apply-bounded before e t f h)
+apply-finite e t f h = at-most-finite 134217728 f.value (apply-bounded e t f h)

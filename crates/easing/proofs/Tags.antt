@@ -1,12 +1,12 @@
--- What the tag of a match on an easing says: it is the number of the kind, or for W3C's steps the first of their four, and the number and the parameters are the easing. Assumes nothing.
-use Prim.Native.Nat.{ℕ, zero, suc, ◌<◌, ◌≤◌}
+-- What the tag of a match on an easing says: it is the number of the kind, and the number and the parameters are the easing. Assumes nothing.
+use Prim.Native.Nat.{ℕ, zero, suc, ◌<◌}
 use native.Mathlib.Nat.{eq-or-lt_of_le}
 use native.Mathlib.Omega.{arith}
-use mathlib.Core.Path.{◌≡◌, refl, sym, subst, subst⁻¹, ap, ◌∙◌}
+use mathlib.Core.Path.{◌≡◌, refl, sym, subst, ◌∙◌}
 use mathlib.Core.Bool.{Bool, true, false, ◌&&◌, ◌||◌, cond}
 use mathlib.Core.List.{List, [], ◌∷◌}
 use mathlib.Core.Logic.{⊎_elim}
-use lib.Dec.{T, eqb, ltb, leb→le}
+use lib.Dec.{T, eqb, ltb}
 use lib.ListN.{length}
 use lib.Ieee.Fits.{and_l, and_r}
 use lib.Ieee.Bits.{is_true}
@@ -15,77 +15,48 @@ use types.Run.{OneOf}
 use denote.Enum.Declared.{tag_of}
 use Rattle.math.specs.Lists.{every}
 use Rattle.math.proofs.Choice.{and_both}
-use Rattle.curves.specs.declared.jumps.Position.{Position}
-use Rattle.curves.specs.declared.jumps.Position.TheVariants.{JumpStart, JumpEnd, JumpBoth, JumpNone}
-use Rattle.easing.specs.Kinds.{number_of, all_named, all_kinds, is_jump}
+use Rattle.easing.specs.Kinds.{number_of, all_named}
 use Rattle.easing.specs.Params.{params, no_params, params_of, with_params, of_number}
 use Rattle.easing.specs.declared.params.Params.{Params}
 use Rattle.easing.specs.contracts.kinds.Easing.{the_type}
 use Rattle.easing.specs.declared.kinds.Easing.{Easing}
-use Rattle.easing.specs.declared.kinds.Easing.TheVariants.{Linear, EaseInQuad, EaseOutQuad, EaseInOutQuad, EaseInCubic, EaseOutCubic, EaseInOutCubic, EaseInQuart, EaseOutQuart, EaseInOutQuart, EaseInQuint, EaseOutQuint, EaseInOutQuint, EaseInSine, EaseOutSine, EaseInOutSine, EaseInExpo, EaseOutExpo, EaseInOutExpo, EaseInCirc, EaseOutCirc, EaseInOutCirc, EaseInBack, EaseOutBack, EaseInOutBack, EaseInElastic, EaseOutElastic, EaseInOutElastic, EaseInBounce, EaseOutBounce, EaseInOutBounce, CubicBezier, Steps, RoughEase, SlowMo, Wiggle, CustomBounce, ExpoScale, Jump}
+use Rattle.easing.specs.declared.kinds.Easing.TheVariants.{Linear, EaseInQuad, EaseOutQuad, EaseInOutQuad, EaseInCubic, EaseOutCubic, EaseInOutCubic, EaseInQuart, EaseOutQuart, EaseInOutQuart, EaseInQuint, EaseOutQuint, EaseInOutQuint, EaseInSine, EaseOutSine, EaseInOutSine, EaseInExpo, EaseOutExpo, EaseInOutExpo, EaseInCirc, EaseOutCirc, EaseInOutCirc, EaseInBack, EaseOutBack, EaseInOutBack, EaseInElastic, EaseOutElastic, EaseInOutElastic, EaseInBounce, EaseOutBounce, EaseInOutBounce, CubicBezier, Steps, RoughEase, SlowMo, Wiggle, CustomBounce, ExpoScale}
 
 abbrev pub among : List ℕ → ℕ → Bool
 among [] n = false
 among (k ∷ ks) n = eqb n k || among ks n
 
--- the tags that are not in a list: the places in `all_named`, and behind them that of W3C's steps
-abbrev without : ℕ → ℕ → List ℕ → List ℕ
-without zero k ks = []
-without (suc n) k ks = cond (among ks k) (without n (suc k) ks) (k ∷ without n (suc k) ks)
-
-abbrev jump_tag : ℕ
-jump_tag = length all_named
+-- the numbers of the kinds that are not in a list
+abbrev without : List Easing → List ℕ → List ℕ
+without [] ks = []
+without (e ∷ es) ks = cond (among ks (number_of e)) (without es ks) (number_of e ∷ without es ks)
 
 abbrev pub all_but : List ℕ → List ℕ
-all_but ks = without (suc jump_tag) 0 ks
+all_but ks = without all_named ks
 
 -- the kinds that are named and refused
 abbrev pub twelve : List ℕ
 twelve = 13 ∷ 14 ∷ 15 ∷ 16 ∷ 17 ∷ 18 ∷ 25 ∷ 26 ∷ 27 ∷ 33 ∷ 35 ∷ 37 ∷ []
 
--- the kinds with parameters, and the tags of their arms
-abbrev pub eleven : List ℕ
-eleven = 31 ∷ 32 ∷ 33 ∷ 34 ∷ 35 ∷ 36 ∷ 37 ∷ 38 ∷ 39 ∷ 40 ∷ 41 ∷ []
-
-abbrev pub eight : List ℕ
-eight = 31 ∷ 32 ∷ 33 ∷ 34 ∷ 35 ∷ 36 ∷ 37 ∷ 38 ∷ []
-
--- what a test says of the kinds with this tag, at the parameters p
-abbrev pub under_tag : (Easing → Bool) → Params → ℕ → Bool
-under_tag f p k = f (of_number k p) && cond (eqb k jump_tag) (f (of_number 39 p) && (f (of_number 40 p) && f (of_number 41 p))) true
+-- the kinds with parameters
+abbrev pub seven : List ℕ
+seven = 31 ∷ 32 ∷ 33 ∷ 34 ∷ 35 ∷ 36 ∷ 37 ∷ []
 
 -- the parameters of e, without the least count of its kind
 abbrev pub own : Easing → Params
 own e = let p = params_of e in params p.a p.b p.c p.d p.count
 
 pub record Told (e : Easing) : Type 0 where
-  pub tag : (f : Easing → Bool) → under_tag f (own e) (tag_of the_type e) ≡ true → f e ≡ true
-  pub known : ltb (number_of e) (length all_kinds) ≡ true
+  pub tag : tag_of the_type e ≡ number_of e
+  pub known : ltb (number_of e) (length all_named) ≡ true
   pub back : of_number (number_of e) (own e) ≡ e
-  pub plain : among eleven (number_of e) ≡ false → params_of e ≡ no_params
+  pub plain : among seven (number_of e) ≡ false → params_of e ≡ no_params
 
-under-own : (e : Easing) → tag_of the_type e ≡ number_of e → of_number (number_of e) (own e) ≡ e → (f : Easing → Bool) → under_tag f (own e) (tag_of the_type e) ≡ true → f e ≡ true
-under-own e t b f h = subst (λ x. f x ≡ true) b (subst (λ n. f (of_number n (own e)) ≡ true) t (and_both (f (of_number (tag_of the_type e) (own e))) _ h).0)
+some-params : (e : Easing) → tag_of the_type e ≡ number_of e → ltb (number_of e) (length all_named) ≡ true → of_number (number_of e) (own e) ≡ e → among seven (number_of e) ≡ true → Told e
+some-params e t k b f = record { tag = t; known = k; back = b; plain = λ p. absurd (subst T (sym f ∙ p) tt) }
 
-some-params : (e : Easing) → tag_of the_type e ≡ number_of e → ltb (number_of e) (length all_kinds) ≡ true → of_number (number_of e) (own e) ≡ e → among eleven (number_of e) ≡ true → Told e
-some-params e t k b f = record { tag = under-own e t b; known = k; back = b; plain = λ p. absurd (subst T (sym f ∙ p) tt) }
-
-no-params : (e : Easing) → tag_of the_type e ≡ number_of e → ltb (number_of e) (length all_kinds) ≡ true → of_number (number_of e) (own e) ≡ e → params_of e ≡ no_params → Told e
-no-params e t k b p = record { tag = under-own e t b; known = k; back = b; plain = λ _. p }
-
--- of the four positions the tag is that of the first
-one-of-four : (p : Position) (n : ℕ) → ltb (number_of (Jump p n)) (length all_kinds) ≡ true → of_number (number_of (Jump p n)) (own (Jump p n)) ≡ Jump p n → among eleven (number_of (Jump p n)) ≡ true
-    → ((f : Easing → Bool) → (f (Jump JumpStart n) ≡ true) × (f (Jump JumpEnd n) ≡ true) × (f (Jump JumpBoth n) ≡ true) × (f (Jump JumpNone n) ≡ true) → f (Jump p n) ≡ true)
-    → Told (Jump p n)
-unfolding params_of with_params
-one-of-four p n k b f pick = record { tag = λ g h. pick g (four (g (Jump JumpStart n)) (g (Jump JumpEnd n)) (g (Jump JumpBoth n)) (g (Jump JumpNone n)) h); known = k; back = b; plain = λ p. absurd (subst T (sym f ∙ p) tt) }
-  where
-    four : (a b c d : Bool) → a && (b && (c && d)) ≡ true → (a ≡ true) × (b ≡ true) × (c ≡ true) × (d ≡ true)
-    four a b c d h =
-        let p = and_both a (b && (c && d)) h in
-        let q = and_both b (c && d) p.1 in
-        let r = and_both c d q.1 in
-        (p.0, q.0, r.0, r.1)
+no-params : (e : Easing) → tag_of the_type e ≡ number_of e → ltb (number_of e) (length all_named) ≡ true → of_number (number_of e) (own e) ≡ e → params_of e ≡ no_params → Told e
+no-params e t k b p = record { tag = t; known = k; back = b; plain = λ _. p }
 
 pub told : (e : Easing) → Told e
 unfolding params_of with_params
@@ -127,10 +98,6 @@ told (SlowMo ratio power) = some-params (SlowMo ratio power) refl refl refl refl
 told (Wiggle wiggles) = some-params (Wiggle wiggles) refl refl refl refl
 told (CustomBounce strength) = some-params (CustomBounce strength) refl refl refl refl
 told (ExpoScale start end) = some-params (ExpoScale start end) refl refl refl refl
-told (Jump JumpStart n) = some-params (Jump JumpStart n) refl refl refl refl
-told (Jump JumpEnd n) = one-of-four JumpEnd n refl refl refl (λ f h. h.1)
-told (Jump JumpBoth n) = one-of-four JumpBoth n refl refl refl (λ f h. h.2)
-told (Jump JumpNone n) = one-of-four JumpNone n refl refl refl (λ f h. h.3)
 
 -- what a test says of each key of an arm, it says of the tag
 one_of : (f : ℕ → Bool) (ks : List ℕ) (x : ℕ) → T (every f ks) → OneOf ks x → f x ≡ true
@@ -138,9 +105,11 @@ one_of f [] x h o = absurd o
 one_of f (k ∷ []) x h o = subst (λ n. f n ≡ true) (sym o) (is_true (f k) (and_l (f k) _ h))
 one_of f (k ∷ j ∷ ks) x h o = ⊎_elim (λ e. subst (λ n. f n ≡ true) (sym e) (is_true (f k) (and_l (f k) _ h))) (λ r. one_of f (j ∷ ks) x (and_r (f k) _ h) r) o
 
--- and so, where it speaks of the kinds with these keys as their tags, of the easing
-pub by-tag : (f : Easing → Bool) (ks : List ℕ) (e : Easing) → T (every (under_tag f (own e)) ks) → OneOf ks (tag_of the_type e) → f e ≡ true
-by-tag f ks e h o = (told e).tag f (one_of (under_tag f (own e)) ks (tag_of the_type e) h o)
+-- and so, where it speaks of the kinds with these keys as their numbers, of the easing
+pub by-tag : (f : Easing → Bool) (ks : List ℕ) (e : Easing) → T (every (λ n. f (of_number n (own e))) ks) → OneOf ks (tag_of the_type e) → f e ≡ true
+by-tag f ks e h o =
+    subst (λ x. f x ≡ true) (told e).back
+    (subst (λ n. f (of_number n (own e)) ≡ true) (told e).tag (one_of (λ n. f (of_number n (own e))) ks (tag_of the_type e) h o))
 
 -- what a test says of every number below n, it says of each
 abbrev pub all_below : ℕ → (ℕ → Bool) → Bool
@@ -154,23 +123,7 @@ each_below (suc n) f h i b =
     ⊎_elim (λ (e : i ≡ n). rw e p.0) (λ (l : i < n). each_below n f p.1 i l) (eq-or-lt_of_le (omega (arith, b)))
 
 -- what it says of every kind at any parameters, it says of each easing
-pub every-kind : (f : Easing → Bool) → ((p : Params) → all_below (length all_kinds) (λ n. f (of_number n p)) ≡ true) → (e : Easing) → f e ≡ true
+pub every-kind : (f : Easing → Bool) → ((p : Params) → all_below (length all_named) (λ n. f (of_number n p)) ≡ true) → (e : Easing) → f e ≡ true
 every-kind f h e =
     subst (λ x. f x ≡ true) (told e).back
-    (each_below (length all_kinds) (λ n. f (of_number n (own e))) (h (own e)) (number_of e) (ltb-true (number_of e) (length all_kinds) (told e).known))
-
--- one of W3C's steps is told its position and its n
-pub jump-of : (e : Easing) → is_jump e ≡ true → (p : Position) × (n : ℕ) × (e ≡ Jump p n)
-unfolding with_params
-jump-of e h = go (number_of e) (told e).back (leb→le 38 (number_of e) (subst⁻¹ T h tt)) (ltb-true (number_of e) (length all_kinds) (told e).known)
-  where
-    go : (k : ℕ) → of_number k (own e) ≡ e → 38 ≤ k → k < 42 → (p : Position) × (n : ℕ) × (e ≡ Jump p n)
-    go k b low high =
-        ⊎_elim (λ (q : 38 ≡ k). (JumpStart, (own e).count, sym b ∙ sym (ap (λ i. of_number i (own e)) q)))
-        (λ (l : 38 < k).
-        ⊎_elim (λ (q : 39 ≡ k). (JumpEnd, (own e).count, sym b ∙ sym (ap (λ i. of_number i (own e)) q)))
-        (λ (m : 39 < k).
-        ⊎_elim (λ (q : 40 ≡ k). (JumpBoth, (own e).count, sym b ∙ sym (ap (λ i. of_number i (own e)) q)))
-        (λ (n : 40 < k). let q : 41 ≡ k = omega (arith, n, high) in (JumpNone, (own e).count, sym b ∙ sym (ap (λ i. of_number i (own e)) q))) (eq-or-lt_of_le (omega (arith, m))))
-        (eq-or-lt_of_le (omega (arith, l))))
-        (eq-or-lt_of_le low)
+    (each_below (length all_named) (λ n. f (of_number n (own e))) (h (own e)) (number_of e) (ltb-true (number_of e) (length all_named) (told e).known))

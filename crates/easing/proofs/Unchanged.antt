@@ -8,7 +8,7 @@ use Rattle.math.proofs.Choice.{of-picked}
 use Rattle.bezier.specs.declared.types.Solved.{Solved}
 use Rattle.easing.specs.Kinds.{curve_of}
 use Rattle.easing.specs.Params.{params_of, within_of}
-use Rattle.easing.specs.Apply.{search_of, eased_at, apply_with, apply_of}
+use Rattle.easing.specs.Apply.{search_of, eased_at, apply_of}
 use Rattle.easing.specs.Values.{value_part, curve_alone, apply_alone, ApplyUnchanged}
 
 at-unchanged : (c : Option (Float → Float)) (search : Float → Solved) (fine : Bool) (t : Float) → value_part (eased_at c search fine t) ≡ curve_alone c fine t
@@ -17,5 +17,5 @@ at-unchanged (some f) search true t = refl
 at-unchanged (some f) search false t = refl
 
 pub apply-unchanged : ApplyUnchanged
-unfolding apply_with apply_alone
+unfolding apply_of apply_alone
 apply-unchanged e t = of-picked value_part (is_nan t) _ _ _ _ refl (at-unchanged (curve_of e) (search_of e) (within_of (params_of e)) (clamp01_of t))

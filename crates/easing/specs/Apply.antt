@@ -1,14 +1,12 @@
 -- Document 01, "Easing" and "Refusal numbers": what an easing answers at a progress, and whether two easings are equal.
-use Rattle.std.specs.Prelude.{ℕ, Bool, true, false, ◌&&◌, cond, eqb, Float}
+use Rattle.std.specs.Prelude.{Bool, true, ◌&&◌, cond, eqb, Float}
 use Rattle.std.proofs.Math.Option.{Option, none, some}
 use Rattle.std.specs.Float.Ieee.{is_nan}
 use Rattle.math.specs.Range.{clamp01_of}
 use Rattle.bezier.specs.declared.types.Solved.{Solved}
 use Rattle.bezier.specs.declared.types.Found.{Found}
 use Rattle.bezier.specs.Search.{solved_at}
-use Rattle.bezier.specs.Bezier.{solution_of, found_by, plain_of}
-use Rattle.curves.specs.declared.jumps.Position.{Position}
-use Rattle.curves.specs.Jumps.{jump_of, least_of}
+use Rattle.bezier.specs.Bezier.{solution_of, found_by}
 use Rattle.refusal.specs.declared.Refusal.TheVariants.{ProgressIsNan, EasingNotSupplied, EasingParameter}
 use Rattle.refusal.specs.Refusing.{unless, when}
 use Rattle.easing.specs.declared.kinds.Easing.{Easing}
@@ -16,8 +14,8 @@ use Rattle.easing.specs.declared.answers.Eased.{Eased}
 use Rattle.easing.specs.declared.answers.Eased.TheVariants.{Value, Refused}
 use Rattle.easing.specs.declared.answers.Equality.{Equality}
 use Rattle.easing.specs.declared.answers.Equality.TheVariants as equality
-use Rattle.easing.specs.Kinds.{number_of, curve_with, supplied_of}
-use Rattle.easing.specs.Params.{counted, params_of, within_of, equal_of}
+use Rattle.easing.specs.Kinds.{number_of, curve_of, supplied_of}
+use Rattle.easing.specs.Params.{params_of, within_of, equal_of}
 
 -- 3 where a parameter is not within its limits
 abbrev pub limited_of : Bool → Found → Eased
@@ -32,19 +30,11 @@ abbrev pub eased_at : Option (Float → Float) → (Float → Solved) → Bool �
 eased_at none search fine t = Refused EasingNotSupplied
 eased_at (some curve) search fine t = limited_of fine (found_by (search t) (curve t))
 
--- W3C's steps at u, from 0 to 1
-abbrev pub jumped_of : Position → Bool → Float → ℕ → Eased
-jumped_of position before u n = limited_of (within_of (counted n (least_of position))) (plain_of (jump_of position before u n))
-
 -- "t is clamped to 0..1, infinities too; NaN is refused with number 1". The order of the refusals is 1, 2, 3
-unfoldable pub apply_with : Bool → Easing → Float → Eased
-apply_with before e t =
+unfoldable pub apply_of : Easing → Float → Eased
+apply_of e t =
     when (is_nan t) (Refused ProgressIsNan)
-    (eased_at (curve_with before e) (search_of e) (within_of (params_of e)) (clamp01_of t))
-
--- Request 6, "and is off elsewhere"
-abbrev pub apply_of : Easing → Float → Eased
-apply_of e t = apply_with false e t
+    (eased_at (curve_of e) (search_of e) (within_of (params_of e)) (clamp01_of t))
 
 -- "Easing inside a record must be supplied and within limits"
 unfoldable pub fits_record_of : Easing → Bool

@@ -4,18 +4,13 @@ use Rattle.std.specs.Float.Ieee.{le, eq}
 use Rattle.math.specs.Rounded.{f32, zero_f}
 use Rattle.math.specs.Range.{is_finite, size_of}
 use Rattle.easing.specs.declared.kinds.Easing.{Easing}
-use Rattle.easing.specs.declared.kinds.Easing.TheVariants.{Linear, EaseInQuad, EaseOutQuad, EaseInOutQuad, EaseInCubic, EaseOutCubic, EaseInOutCubic, EaseInQuart, EaseOutQuart, EaseInOutQuart, EaseInQuint, EaseOutQuint, EaseInOutQuint, EaseInSine, EaseOutSine, EaseInOutSine, EaseInExpo, EaseOutExpo, EaseInOutExpo, EaseInCirc, EaseOutCirc, EaseInOutCirc, EaseInBack, EaseOutBack, EaseInOutBack, EaseInElastic, EaseOutElastic, EaseInOutElastic, EaseInBounce, EaseOutBounce, EaseInOutBounce, CubicBezier, Steps, RoughEase, SlowMo, Wiggle, CustomBounce, ExpoScale, Jump}
+use Rattle.easing.specs.declared.kinds.Easing.TheVariants.{Linear, EaseInQuad, EaseOutQuad, EaseInOutQuad, EaseInCubic, EaseOutCubic, EaseInOutCubic, EaseInQuart, EaseOutQuart, EaseInOutQuart, EaseInQuint, EaseOutQuint, EaseInOutQuint, EaseInSine, EaseOutSine, EaseInOutSine, EaseInExpo, EaseOutExpo, EaseInOutExpo, EaseInCirc, EaseOutCirc, EaseInOutCirc, EaseInBack, EaseOutBack, EaseInOutBack, EaseInElastic, EaseOutElastic, EaseInOutElastic, EaseInBounce, EaseOutBounce, EaseInOutBounce, CubicBezier, Steps, RoughEase, SlowMo, Wiggle, CustomBounce, ExpoScale}
 use Rattle.easing.specs.declared.params.Params.{Params}
-use Rattle.curves.specs.Jumps.{least_of}
-use Rattle.easing.specs.Kinds.{all_kinds}
+use Rattle.easing.specs.Kinds.{all_named}
 
 -- two that have no limit of size, a and c, two that have one, b and d, and a count; the smallest count of the kind is 0
 abbrev pub params : Float → Float → Float → Float → ℕ → Params
 params a b c d n = record { a = a; b = b; c = c; d = d; count = n; least = 0 }
-
--- a count alone, with the smallest count of the kind
-abbrev pub counted : ℕ → ℕ → Params
-counted n least = record { a = zero_f; b = zero_f; c = zero_f; d = zero_f; count = n; least = least }
 
 abbrev pub no_params : Params
 no_params = params zero_f zero_f zero_f zero_f 0
@@ -60,7 +55,6 @@ params_of (SlowMo ratio power) = params ratio power zero_f zero_f 0
 params_of (Wiggle wiggles) = params zero_f zero_f zero_f zero_f wiggles
 params_of (CustomBounce strength) = params strength zero_f zero_f zero_f 0
 params_of (ExpoScale start end) = params start end zero_f zero_f 0
-params_of (Jump position n) = counted n (least_of position)
 
 -- the kind of e, with the parameters p
 unfoldable pub with_params : Params → Easing → Easing
@@ -102,11 +96,10 @@ with_params p (SlowMo ratio power) = SlowMo p.a p.b
 with_params p (Wiggle wiggles) = Wiggle p.count
 with_params p (CustomBounce strength) = CustomBounce p.a
 with_params p (ExpoScale start end) = ExpoScale p.a p.b
-with_params p (Jump position n) = Jump position p.count
 
 -- the kind with number k, with the parameters p; Linear for a number of none
 abbrev pub of_number : ℕ → Params → Easing
-of_number k p = with_params p (get_or all_kinds k Linear)
+of_number k p = with_params p (get_or all_named k Linear)
 
 -- 1,024
 abbrev pub limit_f : Float
@@ -116,7 +109,7 @@ limit_f = f32 0x4480_0000
 abbrev pub up_to_1024 : Float → Bool
 up_to_1024 x = le (size_of x) limit_f
 
--- "parameter is not finite, a Bezier y or a power is beyond 1,024 in size, or Steps is above 65,536"; request 6, "in the new family 3 also for n = 0, and for jump-none with n = 1": the count is no smaller than the kind's smallest
+-- "parameter is not finite, a Bezier y or a power is beyond 1,024 in size, or Steps is above 65,536"; and the count is no smaller than the kind's smallest
 unfoldable pub within_of : Params → Bool
 within_of p =
     is_finite p.a && up_to_1024 p.b && is_finite p.c && up_to_1024 p.d && leb p.least p.count && leb p.count 65536

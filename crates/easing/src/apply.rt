@@ -1,14 +1,12 @@
 // The value of an easing at a progress.
 ghost use Rattle.std.specs.Prelude.{◌≡◌};
 ghost use Rattle.bezier.specs.Bezier.{plain_of};
-ghost use Rattle.easing.specs.Apply.{limited_of, jumped_of, apply_of, apply_with};
-ghost use Rattle.math.specs.Range.{Within};
+ghost use Rattle.easing.specs.Apply.{limited_of, apply_of};
 
 use crate::answers::Eased;
 use crate::kinds::Easing;
-use crate::params::{Params, params_of, within};
+use crate::params::{params_of, within};
 use bezier::Found;
-use curves::Position;
 use refusal::Refusal;
 use units::Progress;
 
@@ -30,29 +28,10 @@ fn limited(fine: bool, found: Found) -> Eased
     }
 }
 
-// n is tested before its jumps are made.
-fn jumped(position: Position, before: bool, u: f32, n: u32) -> Eased
-    requires { Within u }
-    ensures { result ≡ jumped_of position before u n }
-{
-    if within(Params::counted(n, position.least())) {
-        plain(curves::jump(position, before, u, n))
-    } else {
-        Eased::Refused(Refusal::EasingParameter)
-    }
-}
-
 impl Easing {
     // t is clamped to 0..1. Refused: 1 where t is NaN, 2 for the twelve kinds, 3 for a parameter.
     pub fn apply(self, t: Progress) -> Eased
         ensures { result ≡ apply_of self t.0 }
-    {
-        self.apply_with(t, false)
-    }
-
-    // before is W3C's flag. No other kind looks at it.
-    pub fn apply_with(self, t: Progress, before: bool) -> Eased
-        ensures { result ≡ apply_with before self t.0 }
     {
         if math::is_nan(t.0) {
             return Eased::Refused(Refusal::ProgressIsNan);
@@ -97,7 +76,6 @@ impl Easing {
                 within(params_of(self)),
                 Found::plain(curves::custom_bounce(u, strength)),
             ),
-            Easing::Jump(position, n) => jumped(position, before, u, n),
             _ => Eased::Refused(Refusal::EasingNotSupplied),
         }
     }

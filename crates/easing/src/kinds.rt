@@ -1,8 +1,6 @@
-// The kinds of easing: the 38 of `all_named`, in its order, and W3C's steps behind them.
+// The kinds of easing, in the order of `all_named`.
 ghost use Rattle.std.specs.Prelude.{◌≡◌};
-ghost use Rattle.easing.specs.Kinds.{jump_number, number_of, supplied_of, all_named};
-
-use curves::Position;
+ghost use Rattle.easing.specs.Kinds.{number_of, supplied_of, all_named};
 
 // The kinds of Sine, Expo and Elastic, RoughEase, Wiggle and ExpoScale are named, and refused.
 #[derive(Drop)]
@@ -49,26 +47,13 @@ pub enum Easing {
     // 0 is a straight line, 1 is EaseOutBounce.
     CustomBounce { strength: f32 },
     ExpoScale { start: f32, end: f32 },
-    // n steps of W3C's, from the position's least on.
-    Jump(Position, u32),
 }
 
-// How many kinds have a number.
-pub const KINDS: u32 = 42;
-
-fn jump_number(position: Position) -> u32
-    ensures { result ≡ jump_number position }
-{
-    match position {
-        Position::JumpStart => 38,
-        Position::JumpEnd => 39,
-        Position::JumpBoth => 40,
-        Position::JumpNone => 41,
-    }
-}
+// How many kinds are named.
+pub const KINDS: u32 = 38;
 
 impl Easing {
-    // The kind's place in `all_named`, from 0; behind them the four positions of W3C's steps.
+    // The kind's place in `all_named`, from 0.
     pub fn kind_number(self) -> u32
         ensures { result ≡ number_of self }
     {
@@ -117,11 +102,10 @@ impl Easing {
             Easing::Wiggle { wiggles: _ } => 35,
             Easing::CustomBounce { strength: _ } => 36,
             Easing::ExpoScale { start: _, end: _ } => 37,
-            Easing::Jump(position, _) => jump_number(position),
         }
     }
 
-    // Whether the kind has a curve: the 26 of `all_named`, and W3C's steps.
+    // Whether the kind is one of the 26.
     pub fn is_supplied(self) -> bool
         ensures { result ≡ supplied_of self }
     {

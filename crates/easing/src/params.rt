@@ -1,10 +1,9 @@
 // The parameters of an easing, both ways, and their limits.
 ghost use Rattle.std.specs.Prelude.{◌≡◌};
-ghost use Rattle.easing.specs.Params.{params, counted, params_of, of_number, within_of, equal_of};
+ghost use Rattle.easing.specs.Params.{params, params_of, of_number, within_of, equal_of};
 ghost use Rattle.easing.specs.Apply.{fits_record_of};
 
 use crate::kinds::Easing;
-use curves::Position;
 
 // b and d are the Bezier's y and the power, which have a limit of size. least is the smallest count
 // of the kind.
@@ -32,20 +31,6 @@ impl Params {
             least: 0,
         }
     }
-
-    // Of a kind that has a count alone.
-    pub fn counted(count: u32, least: u32) -> Params
-        ensures { result ≡ counted count least }
-    {
-        Params {
-            a: 0.0,
-            b: 0.0,
-            c: 0.0,
-            d: 0.0,
-            count,
-            least,
-        }
-    }
 }
 
 // What a kind does not have is 0.
@@ -63,7 +48,6 @@ pub fn params_of(e: Easing) -> Params
         Easing::Wiggle { wiggles } => Params::new(0.0, 0.0, 0.0, 0.0, wiggles),
         Easing::CustomBounce { strength } => Params::new(strength, 0.0, 0.0, 0.0, 0),
         Easing::ExpoScale { start, end } => Params::new(start, end, 0.0, 0.0, 0),
-        Easing::Jump(position, n) => Params::counted(n, position.least()),
         _ => Params::new(0.0, 0.0, 0.0, 0.0, 0),
     }
 }
@@ -140,10 +124,6 @@ impl Easing {
                 start: p.a,
                 end: p.b,
             },
-            38 => Easing::Jump(Position::JumpStart, p.count),
-            39 => Easing::Jump(Position::JumpEnd, p.count),
-            40 => Easing::Jump(Position::JumpBoth, p.count),
-            41 => Easing::Jump(Position::JumpNone, p.count),
             _ => Easing::Linear,
         }
     }

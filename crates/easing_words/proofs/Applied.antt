@@ -17,9 +17,9 @@ use Rattle.easing.specs.declared.kinds.Easing.{Easing}
 use Rattle.easing.specs.declared.kinds.Easing.TheVariants as easing
 use Rattle.easing.specs.declared.answers.Eased.TheVariants.{Value}
 use Rattle.easing.specs.declared.params.Params.{Params}
-use Rattle.easing.specs.Kinds.{number_of, curve_with, curve_of, supplied_of}
+use Rattle.easing.specs.Kinds.{number_of, curve_of, supplied_of}
 use Rattle.easing.specs.Params.{params, no_params, params_of, with_params, of_number, within_of}
-use Rattle.easing.specs.Apply.{eased_at, search_of, apply_with, apply_of, fits_record_of}
+use Rattle.easing.specs.Apply.{eased_at, search_of, apply_of, fits_record_of}
 use Rattle.words.specs.declared.kinds.LaxEasing.{LaxEasing}
 use Rattle.words.specs.declared.kinds.EasingRead.TheVariants as kind
 use Rattle.words.specs.Kinds.{is_kind, easing_from}
@@ -62,7 +62,7 @@ eased-by none s u v h g = let z : ◌≡◌ {A = ℕ} 0 1 = cc in absurd (omega 
 eased-by (some f) s u v h g = let e : f u ≡ v = cc in rw (g, e) refl
 
 apply-plain : (e : Easing) (t v : Float) → is_nan t ≡ false → within_of (params_of e) ≡ true → eqb (number_of e) 31 ≡ false → drawn.At v ≡ drawn_by (curve_of e) (clamp01_of t) → apply_of e t ≡ Value (plain_of v)
-unfolding apply_with search_of
+unfolding apply_of search_of
 apply-plain e t v n p s d = rw (n, p) (eased-by (curve_of e) (search_of e) (clamp01_of t) v d (rw s refl))
 
 drawn-parts : (k : ℕ) (u v : Float) → drawn.At v ≡ draw_of k u → (plain_kind k ≡ true) × (drawn.At v ≡ drawn_by (curve_of (of_number k no_params)) u)
@@ -110,7 +110,7 @@ holds-so w h = go (plain_kind w.kind) refl (eqb w.kind 31) refl (within_of (para
     go false p false e f g h = absurd (false≢true h)
 
 pub bezier-applies : (w : LaxEasing) (t u : Float) (f : Found) → searched.At f ≡ searched_of w.kind w.a w.b w.c w.d u → u ≡ clamp01_of t → is_nan t ≡ false → Holds w × (apply_of (easing_in (easing_from w)) t ≡ Value f)
-unfolding apply_with search_of curve_with params_of
+unfolding apply_of search_of curve_of params_of
 bezier-applies w t u f h c n =
     let s = searched-parts w.kind w.a w.b w.c w.d u f h in
     (bezier-holds w s.0 s.1, rw (bezier-read w s.0, n, s.1, s.2, c) refl)

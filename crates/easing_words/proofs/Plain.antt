@@ -11,10 +11,10 @@ use borrow.Author.Tests.{ltb-true, eqb-true, not-true}
 use Rattle.math.proofs.Choice.{and_both}
 use Rattle.easing.specs.declared.kinds.Easing.{Easing}
 use Rattle.easing.specs.declared.params.Params.{Params}
-use Rattle.easing.specs.Kinds.{number_of, all_kinds, supplied_of}
+use Rattle.easing.specs.Kinds.{number_of, all_named, supplied_of}
 use Rattle.easing.specs.Params.{no_params, params_of, with_params, of_number, within_of}
 use Rattle.easing.specs.Apply.{fits_record_of}
-use Rattle.easing.proofs.Tags.{among, eleven, own, told, each_below}
+use Rattle.easing.proofs.Tags.{among, seven, own, told, each_below}
 use Rattle.words.specs.declared.kinds.LaxEasing.{LaxEasing}
 use Rattle.words.specs.Kinds.{words, is_kind, easing_from}
 use Rattle.words.specs.Tracks.{easing_in}
@@ -56,20 +56,20 @@ rest_plain k r = go (plain_kind k) refl
     go true e =
         absurd
         (none_of keys k r
-        (each-plain (among keys) (λ i h. each_below (length all_kinds) (λ j. not (plain_kind j) || among keys j) refl i (ltb-true i (length all_kinds) h)) k e))
+        (each-plain (among keys) (λ i h. each_below (length all_named) (λ j. not (plain_kind j) || among keys j) refl i (ltb-true i (length all_named) h)) k e))
 
 module _ (k : ℕ) (p : Params) (h : plain_kind k ≡ true) where
   number : number_of (of_number k p) ≡ k
   unfolding with_params
   number =
       eqb-true (number_of (of_number k p)) k
-      (each-plain (λ i. eqb (number_of (of_number i p)) i) (λ i b. each_below (length all_kinds) (λ j. not (plain_kind j) || eqb (number_of (of_number j p)) j) refl i (ltb-true i (length all_kinds) b)) k h)
+      (each-plain (λ i. eqb (number_of (of_number i p)) i) (λ i b. each_below (length all_named) (λ j. not (plain_kind j) || eqb (number_of (of_number j p)) j) refl i (ltb-true i (length all_named) b)) k h)
 
-  few : among eleven k ≡ false
-  few = not-true (among eleven k) (each-plain (λ i. not (among eleven i)) (λ i b. each_below (length all_kinds) (λ j. not (plain_kind j) || not (among eleven j)) refl i (ltb-true i (length all_kinds) b)) k h)
+  few : among seven k ≡ false
+  few = not-true (among seven k) (each-plain (λ i. not (among seven i)) (λ i b. each_below (length all_named) (λ j. not (plain_kind j) || not (among seven j)) refl i (ltb-true i (length all_named) b)) k h)
 
   pub no-search : eqb (number_of (of_number k p)) 31 ≡ false
-  no-search = rw number (not-true (eqb k 31) (each-plain (λ i. not (eqb i 31)) (λ i b. each_below (length all_kinds) (λ j. not (plain_kind j) || not (eqb j 31)) refl i (ltb-true i (length all_kinds) b)) k h))
+  no-search = rw number (not-true (eqb k 31) (each-plain (λ i. not (eqb i 31)) (λ i b. each_below (length all_named) (λ j. not (plain_kind j) || not (eqb j 31)) refl i (ltb-true i (length all_named) b)) k h))
 
   none : params_of (of_number k p) ≡ no_params
   none = (told (of_number k p)).plain (rw number few)

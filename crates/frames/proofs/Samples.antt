@@ -64,7 +64,7 @@ eased-most : (e : Easing) (p : Float) → AtMost 134217728 (eased_of e p).value
 eased-most e p = go (apply_of e p) refl
   where
     go : (r : Eased) → apply_of e p ≡ r → AtMost 134217728 (found_in r).value
-    go (Value f) h = apply-bounded false e p f h
+    go (Value f) h = apply-bounded e p f h
     go (Refused r) h = zero-most 134217728
 
 abbrev Bounded : Found → Type 0

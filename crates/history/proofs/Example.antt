@@ -9,7 +9,7 @@ use lib.Ieee.{add, sub, mul, neg, sum, lt, le, eq, round, of_int, of_bits}
 use Rattle.math.specs.Rounded.{f32, zero_f, one_f}
 use Rattle.math.specs.Whole.{Is}
 use Rattle.easing.specs.declared.kinds.Easing.TheVariants.{Linear}
-use Rattle.easing.specs.Kinds.{curve_with, supplied_of}
+use Rattle.easing.specs.Kinds.{curve_of, supplied_of}
 use Rattle.easing.specs.Params.{params_of, within_of as params_within}
 use Rattle.easing.specs.Apply.{fits_record_of}
 use Rattle.loop_mode.specs.declared.Loop.TheVariants.{Times}
@@ -48,7 +48,7 @@ unfolding t eq of_int round of_bits
 settings = record { duration-is = tt; duration-from = omega arith; duration-to = omega arith; delay-is = tt; delay-to = omega arith; scale-is = tt; scale-from = omega arith; scale-to = omega arith }
 
 accepted : reset_of t ≡ Done (put (at_start t) t)
-unfolding t reset_of within_of settings_within clock_within fits_record_of supplied_of curve_with params_of params_within mode_within le lt eq of_bits
+unfolding t reset_of within_of settings_within clock_within fits_record_of supplied_of curve_of params_of params_within mode_within le lt eq of_bits
 accepted = refl
 
 steps : List Act
@@ -59,7 +59,7 @@ end_of = after_all (fresh (put (at_start t) t)) steps
 
 -- H is 108 and A 106
 all-taken : end_of.taken ≡ 108
-unfolding end_of steps t after_all update_of by_state wait_of run_of advanced folded folds_of fold_once due within_of settings_within clock_within fits_record_of supplied_of curve_with params_of params_within mode_within add sub mul neg sum round of_int le lt eq of_bits
+unfolding end_of steps t after_all update_of by_state wait_of run_of advanced folded folds_of fold_once due within_of settings_within clock_within fits_record_of supplied_of curve_of params_of params_within mode_within add sub mul neg sum round of_int le lt eq of_bits
 all-taken = refl
 
 shown : Holds (Times 4) 3 1 106 end_of

@@ -18,7 +18,6 @@ use Rattle.frames.specs.Pushing.{pushed_of, put_of}
 use Rattle.frames.proofs.Rising.{rising}
 use Rattle.frames.proofs.Pushed.{pushed-in}
 use Rattle.frames.proofs.Samples.{sample-finite, sample-first, sample-last}
-use Rattle.frames.specs.Promises.{shows_own}
 use Rattle.frames.proofs.Owned.{sample-own}
 use Rattle.keyframe.specs.declared.types.Track.{Track}
 use Rattle.keyframe.specs.declared.types.Changed.{Changed}
@@ -50,33 +49,33 @@ stored_same l k = ap (λ (x : Float). cond (eqb (length l) 1) (own_of (first_of 
     maxed x false e = refl
     maxed x true e = rw (not-lt-of-le x zero_f (equal-le x zero_f (subst⁻¹ T e tt)), zero-below)
 
--- where a push is done and the frame shows its value, a sample at its time equals it
-abbrev Sampled : Keyframe → Changed → Type 0
-Sampled k r = r.outcome ≡ Done → Fine r.track → shows_own (frames_in r.track) k ≡ true → eq (sample_of (frames_in r.track) k.time).value k.value ≡ true
+-- where a push is done, a sample at its time equals the value that was pushed
+abbrev Sampled : Float → Float → Changed → Type 0
+Sampled time value r = r.outcome ≡ Done → Fine r.track → eq (sample_of (frames_in r.track) time).value value ≡ true
 
 never : {A : Type 0} (r : Refusal) → Refused r ≡ Done → A
 never r h =
     let z : ◌≡◌ {A = ℕ} 0 1 = cc in
     absurd (omega (arith, z))
 
-placed-sampled : (t : Track) (k : Keyframe) → T (fits binary32 k.value) → Sampled k (placed_of t (put_of t.frames t.count k))
+placed-sampled : (t : Track) (k : Keyframe) → T (fits binary32 k.value) → Sampled k.time k.value (placed_of t (put_of t.frames t.count k))
 unfolding put_of placed_of
 placed-sampled t k F =
     let l = pushed_of k (frames_in t) in
-    by-test (λ (p : Put). Sampled k (placed_of t p)) (leb (length l) 64) (record { frames = l ++ drop (length l) t.frames; count = length l; full = false }) (record { frames = t.frames; count = t.count; full = true })
+    by-test (λ (p : Put). Sampled k.time k.value (placed_of t p)) (leb (length l) 64) (record { frames = l ++ drop (length l) t.frames; count = length l; full = false }) (record { frames = t.frames; count = t.count; full = true })
     (λ _ _ fine. go l (pushed-in k (frames_in t)) (take (length l) (l ++ drop (length l) t.frames)) (take_at l (drop (length l) t.frames) (length l) refl) (frames-fine _ fine))
-    (λ _ h _ _. never TrackFull h)
+    (λ _ h _. never TrackFull h)
   where
-    go : (l : List Keyframe) → (p : ℕ) × ((p < length l) × (get_or l p no_frame ≡ k)) → (m : List Keyframe) → m ≡ l → frames_within m ≡ true → shows_own m k ≡ true → eq (sample_of m k.time).value k.value ≡ true
-    go l (p, (h, e)) m s fine shows =
+    go : (l : List Keyframe) → (p : ℕ) × ((p < length l) × (get_or l p no_frame ≡ k)) → (m : List Keyframe) → m ≡ l → frames_within m ≡ true → eq (sample_of m k.time).value k.value ≡ true
+    go l (p, (h, e)) m s fine =
         rw s
-        (subst (λ (x : Keyframe). eq (sample_of l x.time).value x.value ≡ true) e (sample-own l (rw s at fine) p h (subst⁻¹ (λ (x : Keyframe). T (fits binary32 x.value)) e F) (subst⁻¹ (λ (x : Keyframe). shows_own l x ≡ true) e (rw s at shows))))
+        (subst (λ (x : Keyframe). eq (sample_of l x.time).value x.value ≡ true) e (sample-own l (rw s at fine) p h (subst⁻¹ (λ (x : Keyframe). T (fits binary32 x.value)) e F)))
 
 pub push-sampled : PushSampled
-push-sampled t fine k F h shows = subst (λ (f : Found). eq f.value k.value ≡ true) (stored_same (frames_in (push_of t k).track) k) (sampled h (push-within t fine k) shows)
+push-sampled t fine k F h = subst (λ (f : Found). eq f.value k.value ≡ true) (stored_same (frames_in (push_of t k).track) k) (sampled h (push-within t fine k))
   where
-    sampled : Sampled (stored_of k) (push_of t k)
-    sampled = by-push (Sampled (stored_of k)) t k (λ r h _ _. never r h) (λ _ _ _. placed-sampled t (stored_of k) F)
+    sampled : Sampled (stored_of k).time k.value (push_of t k)
+    sampled = by-push (Sampled (stored_of k).time k.value) t k (λ r h _. never r h) (λ _ _ _. placed-sampled t (stored_of k) F)
 
 pub ascending : Ascending
 ascending t fine = rising before_all (frames_in t) (frames-fine t fine)

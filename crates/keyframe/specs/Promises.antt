@@ -7,13 +7,12 @@ use Rattle.loop_mode.specs.declared.Loop.{Loop}
 use Rattle.frames.specs.declared.frame.Keyframe.{Keyframe}
 use Rattle.frames.specs.Limits.{no_frame}
 use Rattle.frames.specs.Sampling.{first_of, last_of, own_of, sample_of}
-use Rattle.frames.specs.Promises.{shows_own}
 use Rattle.keyframe.specs.declared.types.Track.{Track}
 use Rattle.keyframe.specs.declared.types.Outcome.TheVariants.{Done}
 use Rattle.keyframe.specs.declared.types.Stepped.TheVariants as stepped
 use Rattle.keyframe.specs.Limits.{frames_in, Fine}
 use Rattle.keyframe.specs.Playback.{done_of}
-use Rattle.keyframe.specs.Pushing.{new_track, stored_of, push_of, looping_of}
+use Rattle.keyframe.specs.Pushing.{new_track, push_of, looping_of}
 use Rattle.keyframe.specs.Stepping.{update_of, reset_of, seek_to_of}
 
 -- a new track is within its limits, and a call that is handed one within them hands one back within them
@@ -41,11 +40,10 @@ Ascending =
     (t : Track) → Fine t → (i j : ℕ) → i < j → j < length (frames_in t)
     → T (lt (slice_index_or (frames_in t) i no_frame).time (slice_index_or (frames_in t) j no_frame).time)
 
--- "Push at an equal time replaces": where a push is done, a sample at its time equals the value that was pushed. Request 6: a frame with jump-start or jump-both has to be the first or the last of the track for that
+-- "Push at an equal time replaces": where a push is done, a sample at its time equals the value that was pushed
 abbrev pub PushSampled : Type 0
 PushSampled =
     (t : Track) → Fine t → (k : Keyframe) → T (fits binary32 k.value) → (push_of t k).outcome ≡ Done
-    → shows_own (frames_in (push_of t k).track) (stored_of k) ≡ true
     → eq (sample_of (frames_in (push_of t k).track) k.time).value k.value ≡ true
 
 -- each sample is finite

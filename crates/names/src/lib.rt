@@ -2,7 +2,7 @@
 
 pub type Name = [u8; 20];
 
-const EASINGS: [u8; 840] = *b"Linear              \
+const EASINGS: [u8; 760] = *b"Linear              \
     EaseInQuad          \
     EaseOutQuad         \
     EaseInOutQuad       \
@@ -39,11 +39,7 @@ const EASINGS: [u8; 840] = *b"Linear              \
     SlowMo              \
     Wiggle              \
     CustomBounce        \
-    ExpoScale           \
-    JumpStart           \
-    JumpEnd             \
-    JumpBoth            \
-    JumpNone            ";
+    ExpoScale           ";
 
 const MODES: [u8; 100] = *b"Once                \
     Times               \
@@ -89,7 +85,7 @@ fn name_at(table: &[u8], place: u32) -> Name {
     name
 }
 
-// Of the kind with this number; blank above 41.
+// Of the kind with this number, its place in `all_named`; blank above 37.
 pub fn easing(kind: u32) -> Name {
     name_at(&EASINGS, kind)
 }

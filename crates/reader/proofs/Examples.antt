@@ -4,7 +4,7 @@ use lib.Ieee.{add, sub, mul, neg, sum, lt, le, eq, round, of_int, of_bits, to_bi
 use Rattle.math.specs.Lists.{split}
 use Rattle.math.specs.Rounded.{zero_f, one_f}
 use Rattle.easing.specs.declared.kinds.Easing.TheVariants.{Linear}
-use Rattle.easing.specs.Kinds.{curve_with, supplied_of}
+use Rattle.easing.specs.Kinds.{curve_of, supplied_of}
 use Rattle.easing.specs.Params.{params_of, within_of as params_within}
 use Rattle.easing.specs.Apply.{fits_record_of}
 use Rattle.loop_mode.specs.declared.Loop.TheVariants.{Forever}
@@ -73,7 +73,7 @@ pub reading : Reading
 reading = replay_of t twice (0 ∷ 0 ∷ [])
 
 computing : Unit {0}
-unfolding reading twice t replay_of read_on_of reading_of split heard_of is_wrong event_in played_of reset_of update_of by_state wait_of run_of advanced folded folds_of fold_once due within_of settings_within clock_within fits_record_of supplied_of curve_with params_of params_within mode_within add sub mul neg sum round of_int le lt eq of_bits to_bits
+unfolding reading twice t replay_of read_on_of reading_of split heard_of is_wrong event_in played_of reset_of update_of by_state wait_of run_of advanced folded folds_of fold_once due within_of settings_within clock_within fits_record_of supplied_of curve_of params_of params_within mode_within add sub mul neg sum round of_int le lt eq of_bits to_bits
 computing = tt
 
 -- the second is a repeat and "is not replayed": one fold

@@ -13,7 +13,7 @@ use Rattle.easing.specs.declared.kinds.Easing.{Easing}
 use Rattle.easing.specs.declared.kinds.Easing.TheVariants.{Linear}
 use Rattle.easing.specs.declared.answers.Eased.{Eased}
 use Rattle.easing.specs.declared.answers.Eased.TheVariants.{Value, Refused}
-use Rattle.easing.specs.Kinds.{curve_with}
+use Rattle.easing.specs.Kinds.{curve_of}
 use Rattle.easing.specs.Params.{params_of}
 use Rattle.easing.specs.Apply.{search_of, apply_of}
 use Rattle.easing.proofs.Answering.{bare}
@@ -24,8 +24,8 @@ use Rattle.tween.proofs.Valued.{progress-within, eased}
 
 -- Linear leaves a progress as it is
 linear : (p : Float) → Within p → apply_of Linear p ≡ Value (plain_of p)
-unfolding curve_with search_of params_of
-linear p w = sym (bare false Linear p (is_nan p) refl (le-numbers zero_f p w.0).1 p (sym (clamp-stays p w)) Linear refl p p (Value (plain_of p)) refl refl refl refl)
+unfolding curve_of search_of params_of
+linear p w = sym (bare Linear p (is_nan p) refl (le-numbers zero_f p w.0).1 p (sym (clamp-stays p w)) Linear refl p p (Value (plain_of p)) refl refl refl refl)
 
 abbrev IsValue : Eased → Type 0
 IsValue (Value f) = Unit {0}

@@ -1,5 +1,5 @@
 -- A tween within its limits has a progress from 0 to 1, an eased progress and a value, both finite: it never meets a refusal of its easing. Assumes nothing.
-use Rattle.std.proofs.Common.{◌≡◌, true, false, T, refl, lit≤}
+use Rattle.std.proofs.Common.{◌≡◌, true, T, refl, lit≤}
 use mathlib.Core.Path.{subst⁻¹}
 use lib.Ieee.{binary32, eq}
 use lib.Ieee.Bits.{is_true}
@@ -50,7 +50,7 @@ module _ (t : Tween) (h : T (within_of t)) where
   blended =
       let f = eased.0 in
       let c = f.value in
-      let m : AtMost 134217728 c = apply-bounded false t.easing (progress_in t) f eased.1 in
+      let m : AtMost 134217728 c = apply-bounded t.easing (progress_in t) f eased.1 in
       subst⁻¹ (λ (a : Eased). Finite (blend_in t a)) eased.1 (
         with_value (blend_at t c) f,
         refl,
@@ -66,7 +66,7 @@ pub eased-progress-answers : EasedProgressAnswers
 unfolding eased_progress_of
 eased-progress-answers t h =
     let e = eased t h in
-    (e.0, rw (within t h) e.1, apply-bounded false t.easing (progress_in t) e.0 e.1)
+    (e.0, rw (within t h) e.1, apply-bounded t.easing (progress_in t) e.0 e.1)
 
 pub value-answers : ValueAnswers
 unfolding value_of

@@ -1,7 +1,7 @@
--- An easing as six words, for the C interface: the kind's number, up to four parameters and a count.
+-- An easing as six words, for the C interface: the kind's place in `all_named` from 0, up to four parameters and a count.
 use Rattle.std.specs.Prelude.{ℕ, Bool, cond, length, ltb, Float}
 use Rattle.easing.specs.declared.kinds.Easing.{Easing}
-use Rattle.easing.specs.Kinds.{number_of, all_kinds}
+use Rattle.easing.specs.Kinds.{number_of, all_named}
 use Rattle.easing.specs.Params.{params, params_of, of_number}
 use Rattle.words.specs.declared.kinds.LaxEasing.{LaxEasing}
 use Rattle.words.specs.declared.kinds.EasingRead.{EasingRead}
@@ -14,9 +14,9 @@ words k a b c d n = record { kind = k; a = a; b = b; c = c; d = d; count = n }
 abbrev pub unknown_word : ℕ
 unknown_word = 100
 
--- one of the 42: the 38 of `all_named`, and W3C's steps
+-- one of the 38
 abbrev pub is_kind : ℕ → Bool
-is_kind k = ltb k (length all_kinds)
+is_kind k = ltb k (length all_named)
 
 -- a word that is no kind is Unknown
 unfoldable pub easing_from : LaxEasing → EasingRead

@@ -1,10 +1,10 @@
-// An easing as six words: its kind's number, up to four parameters and a count.
+// An easing as six words: its kind's place in `all_named` from 0, up to four parameters and a count.
 ghost use Rattle.std.specs.Prelude.{◌≡◌};
 ghost use Rattle.words.specs.Kinds.{is_kind, easing_from, easing_words};
 
 use easing::{Easing, KINDS, Params};
 
-// CubicBezier: x1, y1, x2, y2 in a to d. Steps, W3C's steps and Wiggle: count. RoughEase: strength in a, points in count.
+// CubicBezier: x1, y1, x2, y2 in a to d. Steps and Wiggle: count. RoughEase: strength in a, points in count.
 // SlowMo: linear_ratio in a, power in b. CustomBounce: strength in a. ExpoScale: start in a, end in b.
 // Words that a kind has no use for are not looked at, and are written as 0.
 #[repr(C)]

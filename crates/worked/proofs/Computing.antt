@@ -1,12 +1,11 @@
 -- The definitions that the examples compute with: to unfold `easings`, `tweens` or `tracks` is to unfold those of that layer and below.
 use lib.Ieee.{sub, mul, div, le, is_nan, of_int, of_bits, to_unsigned}
-use Rattle.curves.specs.Jumps.{jump_of}
 use Rattle.bezier.specs.Bezier.{solution_of, cubic_bezier}
 use Rattle.bezier.specs.Curve.{sample_cubic_of}
 use Rattle.bezier.specs.Search.{turn_of, newton_of}
-use Rattle.easing.specs.Kinds.{curve_with, supplied_of}
+use Rattle.easing.specs.Kinds.{supplied_of}
 use Rattle.easing.specs.Params.{params_of, within_of as params_within}
-use Rattle.easing.specs.Apply.{search_of, apply_with, fits_record_of}
+use Rattle.easing.specs.Apply.{search_of, apply_of, fits_record_of}
 use Rattle.loop_mode.specs.Passes.{within_of as mode_within}
 use Rattle.tween.specs.Limits.{settings_within, clock_within, within_of as tween_within}
 use Rattle.tween.specs.Calls.{value_of, reset_of}
@@ -21,7 +20,7 @@ use Rattle.keyframe.specs.Sampling.{value_at_of}
 use Rattle.keyframe.specs.Stepping.{final_of, advance_of, update_of as track_update}
 
 unfoldable pub easings : Unit {0}
-unfolding jump_of cubic_bezier solution_of newton_of turn_of sample_cubic_of supplied_of curve_with params_of params_within search_of apply_with fits_record_of sub mul div le is_nan of_int of_bits to_unsigned
+unfolding cubic_bezier solution_of newton_of turn_of sample_cubic_of supplied_of params_of params_within search_of apply_of fits_record_of sub mul div le is_nan of_int of_bits to_unsigned
 easings = tt
 
 unfoldable pub tweens : Unit {0}

@@ -5,6 +5,7 @@ use Rattle.std.specs.Float.{binary32}
 use Rattle.std.specs.Float.Ieee.{round}
 use Rattle.math.specs.Rounded.{one_f, zero_f}
 use Rattle.refusal.specs.Number.{number_of}
+use Rattle.curves.specs.Stairs.{jump_end_of}
 use Rattle.easing.specs.declared.kinds.Easing.{Easing}
 use Rattle.easing.specs.declared.kinds.Easing.TheVariants.{Linear}
 use Rattle.easing.specs.Apply.{apply_of}
@@ -45,6 +46,8 @@ pub data Step : Type 0 where
 pub data Row : Type 0 where
   -- a kind, t, and the eased t
   eases : Easing → Float → Float → Row
+  -- W3C's steps(n, jump-end), t, and the eased t
+  jumps : ℕ → Float → Float → Row
   -- a tween that is reset, and steps one after the other
   runs : Tween → List Step → Row
 
@@ -103,6 +106,7 @@ FromReset steps (changed.Refused t r) = ⊥
 
 abbrev pub Holds : Row → Type 0
 Holds (eases e t v) = value_part (apply_of e t) ≡ inr v
+Holds (jumps n t v) = jump_end_of t n ≡ v
 Holds (runs t steps) = FromReset steps (reset_of t)
 
 abbrev pub AllHold : List Row → Type 0

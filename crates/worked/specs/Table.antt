@@ -1,10 +1,9 @@
 -- Document 01, "Checked by hand": the starred examples, in its order.
 use Rattle.std.specs.Prelude.{List, [], ◌∷◌}
-use Rattle.curves.specs.declared.jumps.Position.TheVariants.{JumpEnd}
-use Rattle.easing.specs.declared.kinds.Easing.TheVariants.{EaseInQuad, EaseInOutQuad, EaseInOutCubic, EaseOutBounce, CubicBezier, Steps, SlowMo, Jump}
+use Rattle.easing.specs.declared.kinds.Easing.TheVariants.{EaseInQuad, EaseInOutQuad, EaseInOutCubic, EaseOutBounce, CubicBezier, Steps, SlowMo}
 use Rattle.loop_mode.specs.declared.Loop.TheVariants.{Times, Forever, PingPongTimes}
 use Rattle.tween.specs.declared.record.TweenState.TheVariants.{Completed}
-use Rattle.worked.specs.Starred.{◌÷◌, folds, elapsed, state, reversed, value, step, refused, Row, eases, runs, tween, AllHold}
+use Rattle.worked.specs.Starred.{◌÷◌, folds, elapsed, state, reversed, value, step, refused, Row, eases, jumps, runs, tween, AllHold}
 
 abbrev pub table : List Row
 table =
@@ -14,7 +13,7 @@ table =
     ∷ eases EaseInOutQuad (75 ÷ 100) (875 ÷ 1000)
     -- S1, W3C's answer to S1, S2, S3
     ∷ eases (Steps 4) (1 ÷ 10) (25 ÷ 100)
-    ∷ eases (Jump JumpEnd 4) (1 ÷ 10) (0 ÷ 1)
+    ∷ jumps 4 (1 ÷ 10) (0 ÷ 1)
     ∷ eases (Steps 4) (25 ÷ 100) (25 ÷ 100)
     ∷ eases (Steps 0) (5 ÷ 10) (1 ÷ 1)
     -- B1, B2, M1

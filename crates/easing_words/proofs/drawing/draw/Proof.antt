@@ -1,5 +1,5 @@
 -- `draw` meets its contract, arm by arm; the last is no plain kind. Assumes nothing.
-use Rattle.easing.specs.Kinds.{curve_with}
+use Rattle.easing.specs.Kinds.{curve_of}
 use Rattle.easing.specs.Params.{with_params}
 use Rattle.easing_words.specs.Drawing.{draw_of}
 use Rattle.easing_words.proofs.Plain.{rest_plain}
@@ -8,7 +8,7 @@ use Rattle.easing_words.proofs.drawing.draw.Statement.{statement}
 use Rattle.easing_words.proofs.drawing.draw.Tie as tie
 
 pub draw-spec : {M : Type 1} → statement M
-unfolding draw_of curve_with with_params
+unfolding draw_of curve_of with_params
 draw-spec =
     tie.close
     (tie.spec

@@ -1,7 +1,7 @@
 -- `of_number` meets its contract: each arm is told its number, and the last is behind the list. Assumes nothing.
 use lib.ListN.{length, get_or-eq_default}
 use Rattle.easing.specs.declared.kinds.Easing.TheVariants.{Linear}
-use Rattle.easing.specs.Kinds.{all_kinds}
+use Rattle.easing.specs.Kinds.{all_named}
 use Rattle.easing.specs.Params.{with_params}
 use Rattle.easing.proofs.Rest.{at_least}
 use Rattle.easing.proofs.kinds.Easing.of_number.Statement.{statement}
@@ -50,8 +50,4 @@ of-number-spec =
     (λ c. simp c.match.keys36)
     (λ c. simp c.match.keys37)
     (λ c. simp c.match.keys38)
-    (λ c. simp c.match.keys39)
-    (λ c. simp c.match.keys40)
-    (λ c. simp c.match.keys41)
-    (λ c. simp c.match.keys42)
-    (λ c. simp (get_or-eq_default all_kinds Linear (at_least (length all_kinds) _ c.match.rest))))
+    (λ c. simp (get_or-eq_default all_named Linear (at_least (length all_named) _ c.match.rest))))

@@ -1,38 +1,30 @@
--- `apply_with` meets its contract: each arm is told its kind, at which the definition computes to what the arm's curve ensures. Assumes nothing.
+-- `apply` meets its contract: each arm is told its kind, at which the definition computes to what the arm's curve ensures. Assumes nothing.
 use borrow.Author.Rules.{rules}
 use borrow.Author.Tests.{not-true}
 use mathlib.Core.Bool.{Bool, true, false, not}
 use mathlib.Core.Path.{◌≡◌, refl, sym, subst⁻¹, ◌∙◌, ap}
-use Prim.Native.Nat.{ℕ}
 use lib.Ieee.{Float}
 use Rattle.math.specs.Range.{Within}
 use Rattle.math.proofs.Ranges.{clamped}
 use Rattle.bezier.specs.declared.types.Found.{Found}
 use Rattle.bezier.specs.Bezier.{plain_of}
 use Rattle.refusal.specs.declared.Refusal.TheVariants.{EasingNotSupplied}
-use Rattle.curves.specs.Jumps.{jump_of}
-use Rattle.curves.specs.declared.jumps.Position.{Position}
-use Rattle.curves.specs.declared.jumps.Position.TheVariants.{JumpStart, JumpEnd, JumpBoth, JumpNone}
 use Rattle.easing.specs.declared.kinds.Easing.{Easing}
-use Rattle.easing.specs.declared.kinds.Easing.TheVariants.{Jump}
 use Rattle.easing.specs.declared.params.Params.{Params}
 use Rattle.easing.specs.declared.answers.Eased.{Eased}
 use Rattle.easing.specs.declared.answers.Eased.TheVariants.{Value, Refused}
-use Rattle.easing.specs.Kinds.{curve_with, supplied_of}
+use Rattle.easing.specs.Kinds.{curve_of, supplied_of}
 use Rattle.easing.specs.Params.{no_params, params_of, with_params, within_of}
-use Rattle.easing.specs.Apply.{limited_of, search_of, eased_at, apply_with}
+use Rattle.easing.specs.Apply.{limited_of, search_of, eased_at, apply_of}
 use Rattle.easing.proofs.Tags.{twelve, by-tag}
 use Rattle.easing.proofs.Answering.{no_number, not-supplied, bare, with_params_lem}
-use Rattle.easing.proofs.kinds.Easing.apply_with.Statement.{statement}
-use Rattle.easing.proofs.kinds.Easing.apply_with.Tie as tie
+use Rattle.easing.proofs.kinds.Easing.apply.Statement.{statement}
+use Rattle.easing.proofs.kinds.Easing.apply.Tie as tie
 
 -- once the progress is clamped: u, for a t that is no NaN
 module _ (b : tie.After-clamp01) where
   abbrev self : Easing
   self = b.before.before.before.args.self
-
-  abbrev before : Bool
-  before = b.before.before.before.args.before
 
   abbrev t : Float
   t = b.before.before.before.args.t.0
@@ -43,32 +35,24 @@ module _ (b : tie.After-clamp01) where
   inside : Within u
   inside = subst⁻¹ Within b.clamp01.ensures (clamped t (sym b.before.before.is_nan.ensures ∙ b.before.if1.left))
 
-  none : supplied_of self ≡ false → Refused EasingNotSupplied ≡ apply_with before self t
-  none = not-supplied before self t _ b.before.before.is_nan.ensures b.before.if1.left
+  none : supplied_of self ≡ false → Refused EasingNotSupplied ≡ apply_of self t
+  none = not-supplied self t _ b.before.before.is_nan.ensures b.before.if1.left
 
   -- at a kind x, whose curve w the call's answer v is
   module _ (x : Easing) (e : self ≡ x) where
-    plainly : (v w : Float) (r : Eased) → v ≡ w → r ≡ Value (plain_of v) → params_of x ≡ no_params → eased_at (curve_with before x) (search_of x) true u ≡ Value (plain_of w) → r ≡ apply_with before self t
-    plainly = bare before self t _ b.before.before.is_nan.ensures b.before.if1.left u b.clamp01.ensures x e
+    plainly : (v w : Float) (r : Eased) → v ≡ w → r ≡ Value (plain_of v) → params_of x ≡ no_params → eased_at (curve_of x) (search_of x) true u ≡ Value (plain_of w) → r ≡ apply_of self t
+    plainly = bare self t _ b.before.before.is_nan.ensures b.before.if1.left u b.clamp01.ensures x e
 
-    limited : (f g : Found) (p : Params) (fine : Bool) (r : Eased) → f ≡ g → p ≡ params_of x → fine ≡ within_of p → r ≡ limited_of fine f → ((fine : Bool) → eased_at (curve_with before x) (search_of x) fine u ≡ limited_of fine g) → r ≡ apply_with before self t
-    limited = with_params_lem before self t _ b.before.before.is_nan.ensures b.before.if1.left u b.clamp01.ensures x e
+    limited : (f g : Found) (p : Params) (fine : Bool) (r : Eased) → f ≡ g → p ≡ params_of x → fine ≡ within_of p → r ≡ limited_of fine f → ((fine : Bool) → eased_at (curve_of x) (search_of x) fine u ≡ limited_of fine g) → r ≡ apply_of self t
+    limited = with_params_lem self t _ b.before.before.is_nan.ensures b.before.if1.left u b.clamp01.ensures x e
 
--- W3C's steps have no search
-jump-eased : (before : Bool) (p : Position) (n : ℕ) (fine : Bool) (u : Float) → eased_at (curve_with before (Jump p n)) (search_of (Jump p n)) fine u ≡ limited_of fine (plain_of (jump_of p before u n))
-unfolding curve_with search_of
-jump-eased before JumpStart n fine u = refl
-jump-eased before JumpEnd n fine u = refl
-jump-eased before JumpBoth n fine u = refl
-jump-eased before JumpNone n fine u = refl
-
-pub apply-with-spec : {M : Type 1} → statement M
-unfolding curve_with supplied_of params_of with_params search_of
-apply-with-spec =
+pub apply-spec : {M : Type 1} → statement M
+unfolding curve_of supplied_of params_of with_params search_of
+apply-spec =
     tie.close
     (tie.spec
     (λ c κs. search rules)
-    (λ c. no_number _ _ _ _ c.before.is_nan.ensures c.if1.true)
+    (λ c. no_number _ _ _ c.before.is_nan.ensures c.if1.true)
     (λ c κs. search rules)
     (λ c. search rules)
     (λ c κs. search rules)
@@ -158,8 +142,6 @@ apply-with-spec =
     (λ c κs. search rules)
     (λ c κs. search rules)
     (λ c κs. search rules)
-    (λ c. search rules)
-    (λ c κs. inside c.before.before.before)
     (λ c. plainly c.before.before.before _ c.before.enum_told.given.1 _ _ _ refl c.plain.ensures refl refl)
     (λ c. plainly c.before.before.before.before _ c.before.before.enum-told2.given.1 _ _ _ c.before.ease-in-quad.ensures c.plain2.ensures refl refl)
     (λ c. plainly c.before.before.before.before _ c.before.before.enum-told3.given.1 _ _ _ c.before.ease-out-quad.ensures c.plain3.ensures refl refl)
@@ -186,5 +168,4 @@ apply-with-spec =
     (λ c. limited c.before.before.before.before.before.before.before.before _ c.before.before.before.before.before.before.self2.given.1 _ _ _ _ _ (c.before.plain23.ensures ∙ ap plain_of c.before.before.steps.ensures) c.before.before.before.before.params-of2.ensures c.before.before.before.within2.ensures c.limited2.ensures (λ fine. refl))
     (λ c. limited c.before.before.before.before.before.before.before.before _ c.before.before.before.before.before.before.self3.given.1 _ _ _ _ _ (c.before.plain24.ensures ∙ ap plain_of c.before.before.slow-mo.ensures) c.before.before.before.before.params-of3.ensures c.before.before.before.within3.ensures c.limited3.ensures (λ fine. refl))
     (λ c. limited c.before.before.before.before.before.before.before.before _ c.before.before.before.before.before.before.self4.given.1 _ _ _ _ _ (c.before.plain25.ensures ∙ ap plain_of c.before.before.custom-bounce.ensures) c.before.before.before.before.params-of4.ensures c.before.before.before.within4.ensures c.limited4.ensures (λ fine. refl))
-    (λ c. limited c.before.before.before.before _ c.before.before.self5.given.1 _ _ _ _ _ refl refl refl c.jumped.ensures (λ fine. jump-eased _ _ _ fine _))
-    (λ c. none c.before (not-true _ (by-tag (λ e. not (supplied_of e)) twelve c.before.before.before.before.args.self tt c.match.keys28))))
+    (λ c. none c.before (not-true _ (by-tag (λ e. not (supplied_of e)) twelve c.before.before.before.before.args.self tt c.match.keys27))))
