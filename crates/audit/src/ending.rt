@@ -1,6 +1,6 @@
 // How a report can end.
 
-#[derive(Drop)]
+#[derive(Clone, Copy)]
 pub enum End {
     Whole,
     // There is a gap, a repeat, or a first number above 0.

@@ -4,7 +4,7 @@ use survey::Seen;
 use tools::{say, say_float, say_number};
 
 // What is said of each record. Made has the place of the first record behind what is missing or may be.
-#[derive(Drop)]
+#[derive(Clone, Copy)]
 pub enum Line {
     Gap,
     Repeat,

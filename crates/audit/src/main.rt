@@ -9,6 +9,8 @@
 //     end gaps G repeats R first N
 //     end refused N
 //     end unreadable
+#![tactic(auto)]
+
 mod answer;
 mod ending;
 mod judged;

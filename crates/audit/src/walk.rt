@@ -5,7 +5,7 @@ use tools::Length;
 use tween::Tween;
 
 // first is the number of the first record, 65,536 where there is none. failed: a read failed.
-#[derive(Drop)]
+#[derive(Clone, Copy)]
 pub struct Walk {
     pub survey: Survey,
     pub bytes: u64,

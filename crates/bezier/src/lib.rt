@@ -1,4 +1,6 @@
 // The cubic Bezier easing.
+#![tactic(auto)]
+
 mod bezier;
 mod curve;
 mod search;

@@ -3,7 +3,7 @@ ghost use Rattle.std.specs.Prelude.{◌≡◌};
 ghost use Rattle.bezier.specs.Bezier.{plain_of, found_by, with_value};
 
 // A u, and the search for it: how many x and how many derivatives were evaluated, and whether the last x met the tolerance. derivatives is a byte for the sake of the mark behind it: at a place that is a multiple of four the mark would be read as a word just after it was written as a byte, for which a processor waits.
-#[derive(Drop)]
+#[derive(Clone, Copy)]
 pub struct Solved {
     pub u: f32,
     pub xs: u32,
@@ -26,7 +26,7 @@ impl Solved {
 }
 
 // A value, and the search behind it, as in Solved.
-#[derive(Drop)]
+#[derive(Clone, Copy)]
 pub struct Found {
     pub value: f32,
     pub xs: u32,
@@ -61,7 +61,7 @@ impl Found {
 }
 
 // What a Newton step finds at u: the curve's x is near enough to t, the curve is too flat there to go on, or the next u.
-#[derive(Drop)]
+#[derive(Clone, Copy)]
 pub enum Turn {
     Near,
     Flat,
@@ -69,7 +69,7 @@ pub enum Turn {
 }
 
 // The span that is halved, and the u in it that is tried next.
-#[derive(Drop)]
+#[derive(Clone, Copy)]
 pub struct Span {
     pub low: f32,
     pub high: f32,

@@ -7,7 +7,7 @@ ghost use Rattle.capi.specs.Logs.{event_in, length_in, lax_log_head, lax_log_rec
 use crate::answers::UNKNOWN_WORD;
 use event_log::{Event, Logged, write_head, write_record};
 
-#[derive(Drop)]
+#[derive(Clone, Copy)]
 pub enum EventRead {
     Known(Event),
     Unknown,

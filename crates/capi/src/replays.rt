@@ -8,7 +8,7 @@ use crate::answers::{UNKNOWN_WORD, outcome_number};
 use reader::{Last, Replay, Replayed, replay, replay_on};
 use words::{TweenRead, store_tween, tween_in, tween_of};
 
-#[derive(Drop)]
+#[derive(Clone, Copy)]
 pub enum LastRead {
     Known(Last),
     Unknown,

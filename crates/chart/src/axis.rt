@@ -2,7 +2,7 @@
 use crate::numbers::{ceil, floor, size};
 
 // digit, 1, 2, 5 or 10, times 10^zeros or 10^-places.
-#[derive(Drop)]
+#[derive(Clone, Copy)]
 pub struct Step {
     pub size: f64,
     pub digit: u64,
@@ -11,7 +11,7 @@ pub struct Step {
 }
 
 // first is the number of steps at low.
-#[derive(Drop)]
+#[derive(Clone, Copy)]
 pub struct Axis {
     pub low: f64,
     pub high: f64,

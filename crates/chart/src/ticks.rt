@@ -6,7 +6,7 @@ use crate::numbers::{size, whole_to};
 use crate::svg::{say, say_number};
 
 // n times 10^-places.
-#[derive(Drop)]
+#[derive(Clone, Copy)]
 struct Scaled {
     n: u64,
     places: u32,

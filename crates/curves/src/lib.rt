@@ -1,5 +1,7 @@
 // The easing curves, each at a progress t from 0 to 1. They are inner steps: the easings call them
 // with t clamped and the parameters within their limits.
+#![tactic(auto)]
+
 mod back;
 mod bounce;
 mod circ;

@@ -1,4 +1,6 @@
 // Plain decimals: text to the nearest f32, and an f32 to a text that reads back.
+#![tactic(auto)]
+
 mod nearest;
 mod printing;
 mod reading;

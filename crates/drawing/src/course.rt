@@ -5,7 +5,7 @@ use reader::hear::{Heard, hear};
 use reader::{Last, Replay, step_in};
 use tween::{Tween, Updated};
 
-#[derive(Drop)]
+#[derive(Clone, Copy)]
 pub struct Course {
     pub replay: Replay,
     // In seconds: the sum of the steps, and what it was before the last record.

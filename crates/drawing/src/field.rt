@@ -5,7 +5,7 @@ use chart::svg::{close_path, close_text, open_path, open_text, say, say_point, s
 use chart::ticks::say_tick;
 
 // What is drawn at each tick of an axis.
-#[derive(Drop)]
+#[derive(Clone, Copy)]
 enum Part {
     Upright,
     Level,

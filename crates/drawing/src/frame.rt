@@ -15,7 +15,7 @@ pub const HIGH: u64 = 880;
 pub const LOW: u64 = 3700;
 
 // draws: the records are drawn, and not only gone over.
-#[derive(Drop)]
+#[derive(Clone, Copy)]
 pub struct Frame {
     pub draws: bool,
     pub time: Axis,

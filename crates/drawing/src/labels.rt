@@ -7,14 +7,14 @@ use crate::marks::middle;
 use chart::svg::{close_path, close_text, open_path, open_text, say, say_number, say_point};
 
 // Labels from left to right: the next may begin at busy; left counts what has none.
-#[derive(Drop)]
+#[derive(Clone, Copy)]
 struct Row {
     busy: u64,
     left: u64,
 }
 
 // What a row has labels of. passes: updates with more than one, and gaps otherwise.
-#[derive(Drop)]
+#[derive(Clone, Copy)]
 struct Kind {
     passes: bool,
     // Labels end before it.

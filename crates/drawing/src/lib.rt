@@ -1,4 +1,6 @@
 // What a replay comes to, gathered in columns and drawn.
+#![tactic(auto)]
+
 pub mod columns;
 pub mod course;
 mod curve;

@@ -2,13 +2,13 @@
 use bezier::Found;
 use refusal::Refusal;
 
-#[derive(Drop)]
+#[derive(Clone, Copy)]
 pub enum Eased {
     Value(Found),
     Refused(Refusal),
 }
 
-#[derive(Drop)]
+#[derive(Clone, Copy)]
 pub enum Equality {
     Equal(bool),
     Refused(Refusal),

@@ -3,7 +3,7 @@ ghost use Rattle.std.specs.Prelude.{◌≡◌};
 ghost use Rattle.easing.specs.Kinds.{number_of, supplied_of, all_named};
 
 // The kinds of Sine, Expo and Elastic, RoughEase, Wiggle and ExpoScale are named, and refused.
-#[derive(Drop)]
+#[derive(Clone, Copy)]
 pub enum Easing {
     Linear,
     EaseInQuad,

@@ -1,4 +1,6 @@
 // Easings: a progress from 0 to 1 in, the eased progress out.
+#![tactic(auto)]
+
 mod answers;
 mod apply;
 mod eq;

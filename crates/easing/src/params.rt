@@ -7,7 +7,7 @@ use crate::kinds::Easing;
 
 // b and d are the Bezier's y and the power, which have a limit of size. least is the smallest count
 // of the kind.
-#[derive(Drop)]
+#[derive(Clone, Copy)]
 pub struct Params {
     pub a: f32,
     pub b: f32,

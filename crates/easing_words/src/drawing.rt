@@ -10,14 +10,14 @@ use math::of_bits;
 use words::is_plain;
 
 // Other: no plain kind.
-#[derive(Drop)]
+#[derive(Clone, Copy)]
 pub enum Drawn {
     At(f32),
     Other,
 }
 
 // Other: no CubicBezier, or one whose parameters are beyond their limits.
-#[derive(Drop)]
+#[derive(Clone, Copy)]
 pub enum Searched {
     At(Found),
     Other,

@@ -2,7 +2,7 @@
 ghost use Rattle.std.specs.Prelude.{◌≡◌};
 ghost use Rattle.event_log.specs.Format.{kind_of, step_of, pattern_of, record_of};
 
-#[derive(Drop)]
+#[derive(Clone, Copy)]
 pub enum Event {
     // An update, by so many seconds.
     Step(f32),

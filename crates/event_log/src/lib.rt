@@ -1,4 +1,6 @@
 // The event log of a pump: what was done to a tween, as a file.
+#![tactic(auto)]
+
 mod event;
 mod head;
 mod writer;

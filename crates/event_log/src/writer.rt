@@ -7,7 +7,7 @@ use crate::head::{has_mark, has_version};
 use refusal::Refusal;
 
 // How long the written log is now, in bytes, or why nothing was written.
-#[derive(Drop)]
+#[derive(Clone, Copy)]
 pub enum Logged {
     Written(usize),
     Refused(Refusal),

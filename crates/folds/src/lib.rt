@@ -1,11 +1,13 @@
 // The folds of an update: what happens each time that elapsed comes to the duration.
+#![tactic(auto)]
+
 ghost use Rattle.std.specs.Prelude.{◌≡◌, ◌≤◌, ◌<◌};
 ghost use Rattle.folds.specs.Folds.{completes, goes_on, fold_once, due, folds_of};
 
 use loop_mode::{Loop, passes};
 
 // What folding changes of a tween, and how many folds were made.
-#[derive(Drop)]
+#[derive(Clone, Copy)]
 pub struct Folding {
     pub elapsed: f32,
     pub loop_count: u32,

@@ -2,7 +2,7 @@
 use easing::Easing;
 
 // time is in seconds from the start of the track; easing goes from this frame to the next.
-#[derive(Drop)]
+#[derive(Clone, Copy)]
 pub struct Keyframe {
     pub time: f32,
     pub value: f32,
@@ -10,7 +10,7 @@ pub struct Keyframe {
 }
 
 // full: the frame found no place, and the frames are those that came in.
-#[derive(Drop)]
+#[derive(Clone, Copy)]
 pub struct Put {
     pub frames: [Keyframe; 64],
     pub count: usize,

@@ -1,6 +1,8 @@
 // Frames: their limits, the interval of a time among them, the value between two of them, and one
 // more among them. `fill`, `sample` and `put` are inner steps of our own crates: a track has tested
 // the frames and their count before it calls them.
+#![tactic(auto)]
+
 mod filling;
 mod frame;
 mod limits;

@@ -1,4 +1,6 @@
 // Keyframe tracks: a value along frames at ascending times.
+#![tactic(auto)]
+
 mod batch;
 mod clock;
 mod handed;

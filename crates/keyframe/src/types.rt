@@ -5,7 +5,7 @@ use refusal::Refusal;
 
 // The first `count` frames are the track's; the places behind them may hold anything. elapsed is in
 // seconds.
-#[derive(Drop)]
+#[derive(Clone, Copy)]
 pub struct Track {
     pub frames: [Keyframe; 64],
     pub count: usize,
@@ -16,47 +16,47 @@ pub struct Track {
 }
 
 // Where playback ends: at a total in seconds, or never.
-#[derive(Drop)]
+#[derive(Clone, Copy)]
 pub enum End {
     At(f32),
     Never,
 }
 
 // What moves in a track.
-#[derive(Drop)]
+#[derive(Clone, Copy)]
 pub struct Clock {
     pub elapsed: f32,
     pub loop_count: u32,
     pub complete: bool,
 }
 
-#[derive(Drop)]
+#[derive(Clone, Copy)]
 pub enum Ticked {
     Ran { clock: Clock, running: bool },
     Refused(Refusal),
 }
 
-#[derive(Drop)]
+#[derive(Clone, Copy)]
 pub enum Outcome {
     Done,
     Refused(Refusal),
 }
 
 // On a refusal the track is the one that came in, here and in Updated.
-#[derive(Drop)]
+#[derive(Clone, Copy)]
 pub struct Changed {
     pub track: Track,
     pub outcome: Outcome,
 }
 
 // running: whether the track is not complete, and has two frames or more.
-#[derive(Drop)]
+#[derive(Clone, Copy)]
 pub enum Stepped {
     Ran { running: bool },
     Refused(Refusal),
 }
 
-#[derive(Drop)]
+#[derive(Clone, Copy)]
 pub struct Updated {
     pub track: Track,
     pub stepped: Stepped,
@@ -64,14 +64,14 @@ pub struct Updated {
 
 // filled is how many places at the front of a lent output were written; unsettled, how many of them
 // hold a value that was not settled. refusal is the number, 0 for none.
-#[derive(Drop)]
+#[derive(Clone, Copy)]
 pub struct Filled {
     pub filled: usize,
     pub unsettled: usize,
     pub refusal: u32,
 }
 
-#[derive(Drop)]
+#[derive(Clone, Copy)]
 pub enum Completion {
     Complete(bool),
     Refused(Refusal),

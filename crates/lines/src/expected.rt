@@ -1,7 +1,7 @@
 // What is wrong with a text.
 use crate::word::Word;
 
-#[derive(Drop)]
+#[derive(Clone, Copy)]
 pub enum Expected {
     // The name of a setting of a ramp.
     Setting,
@@ -29,7 +29,7 @@ pub enum Expected {
 }
 
 // line counts from 1. Where nothing was found, the line or the text ended.
-#[derive(Drop)]
+#[derive(Clone, Copy)]
 pub struct Fault {
     pub line: u64,
     pub found: Word,

@@ -1,5 +1,7 @@
 // Text of words, a line at a time. A # and what follows it in its line is a comment; blanks, tabs and
 // carriage returns part words.
+#![tactic(auto)]
+
 mod expected;
 mod numbers;
 mod word;

@@ -5,13 +5,13 @@ use crate::expected::Expected;
 use crate::word::Word;
 use decimal::Decimal;
 
-#[derive(Drop)]
+#[derive(Clone, Copy)]
 pub enum Valued {
     Value(f32),
     Wrong(Expected),
 }
 
-#[derive(Drop)]
+#[derive(Clone, Copy)]
 pub enum Counted {
     Number(u32),
     Wrong,

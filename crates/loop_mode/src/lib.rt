@@ -1,8 +1,10 @@
 // What happens at the end of a pass.
+#![tactic(auto)]
+
 ghost use Rattle.std.specs.Prelude.{◌≡◌};
 ghost use Rattle.loop_mode.specs.Passes.{passes_of, limit_of, within_of};
 
-#[derive(Drop)]
+#[derive(Clone, Copy)]
 pub enum Loop {
     Once,
     // 0 counts as 1, here and in PingPongTimes.
@@ -17,7 +19,7 @@ pub enum Loop {
 // The largest pass number that a mode may hold.
 const MOST_PASSES: u32 = 65535;
 
-#[derive(Drop)]
+#[derive(Clone, Copy)]
 pub enum PassLimit {
     Passes(u32),
     Endless,

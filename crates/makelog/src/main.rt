@@ -13,6 +13,8 @@
 //
 // The whole script is read before LOG is opened. The last line is `end ok`, `end refused N` or
 // `end unreadable`.
+#![tactic(auto)]
+
 mod order;
 mod script;
 mod sink;

@@ -2,7 +2,7 @@
 use event_log::Event;
 use lines::{Counted, Expected, Valued, Word};
 
-#[derive(Drop)]
+#[derive(Clone, Copy)]
 pub enum Order {
     // A line of no words.
     Nothing,

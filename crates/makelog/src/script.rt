@@ -3,7 +3,7 @@ use crate::order::{Order, order_at};
 use event_log::{Event, Logged};
 use lines::{Expected, Fault, Word};
 
-#[derive(Drop)]
+#[derive(Clone, Copy)]
 pub enum Judged {
     Right,
     Wrong(Fault),
@@ -12,7 +12,7 @@ pub enum Judged {
 }
 
 // What one line comes to. behind: a record stands just before the next line.
-#[derive(Drop)]
+#[derive(Clone, Copy)]
 enum Line {
     Taken(bool),
     Wrong(Word, Expected),

@@ -4,7 +4,7 @@ use event_log::{Event, Logged};
 
 // The buffer begins with the head. written bytes of it are the log that the writer sees, and those before
 // fresh are in the file already. records went out or will.
-#[derive(Drop)]
+#[derive(Clone, Copy)]
 pub struct Sink {
     pub written: usize,
     pub fresh: usize,

@@ -1,4 +1,6 @@
 // Helpers on one f32, which every layer leans on.
+#![tactic(auto)]
+
 mod blending;
 mod class;
 mod division;

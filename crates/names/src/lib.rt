@@ -1,4 +1,5 @@
 // The manual's names, each in 20 bytes with blanks behind it.
+#![tactic(auto)]
 
 pub type Name = [u8; 20];
 

@@ -2,6 +2,8 @@
 //
 //     plot RAMP LOG     the setpoint over time, as the replay of the log gives it
 //     plot RAMP         the ramp alone
+#![tactic(auto)]
+
 mod alone;
 mod log;
 mod refusing;

@@ -3,7 +3,7 @@ use easing::{Easing, KINDS, Params};
 use lines::{Counted, Expected, Valued, Word};
 use words::LaxEasing;
 
-#[derive(Drop)]
+#[derive(Clone, Copy)]
 pub enum Eased {
     // The easing, and where its last word ends.
     Read(LaxEasing, usize),

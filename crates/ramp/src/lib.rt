@@ -1,4 +1,6 @@
 // A ramp as text, a name and its value to a line; and the tween that it describes, just reset.
+#![tactic(auto)]
+
 mod easings;
 mod parse;
 mod settings;

@@ -6,13 +6,13 @@ use lines::{Expected, Fault, Word};
 use tween::{Changed, Tween};
 use words::{LaxTween, TweenRead};
 
-#[derive(Drop)]
+#[derive(Clone, Copy)]
 pub enum Parsed {
     Ramp(Tween),
     Wrong(Fault),
 }
 
-#[derive(Drop)]
+#[derive(Clone, Copy)]
 enum Line {
     // The ramp with the line, and the bit of the setting that it gives; 0 for a line of none.
     Taken(LaxTween, u32),

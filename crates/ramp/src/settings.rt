@@ -3,7 +3,7 @@ use crate::easings::{Eased, easing_at};
 use lines::{Counted, Expected, Valued, Word};
 use words::{LaxLoop, LaxTween};
 
-#[derive(Drop)]
+#[derive(Clone, Copy)]
 pub enum Setting {
     // The ramp with it, and where its last word ends.
     Set(LaxTween, usize),

@@ -10,7 +10,7 @@ use tween::{Changed, Tween, Updated};
 
 // How far a replay has come. missing is how many records are known to be missing, repeats apart; folds
 // those of all updates. Both stay at 18,446,744,073,709,551,615 where they would pass it.
-#[derive(Drop)]
+#[derive(Clone, Copy)]
 pub struct Replay {
     pub tween: Tween,
     pub last: Last,
@@ -18,14 +18,14 @@ pub struct Replay {
     pub folds: u64,
 }
 
-#[derive(Drop)]
+#[derive(Clone, Copy)]
 pub enum Played {
     // The tween behind the call, and the folds of an update.
     Done(Tween, u32),
     Refused(Refusal),
 }
 
-#[derive(Drop)]
+#[derive(Clone, Copy)]
 pub enum Heard {
     // What is missing before the record, and how far the replay has come with it.
     Goes(u16, Replay),

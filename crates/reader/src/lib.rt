@@ -1,4 +1,6 @@
 // Reads an event log back: replays it into a tween, and counts what is missing.
+#![tactic(auto)]
+
 mod gaps;
 pub mod hear;
 mod read;

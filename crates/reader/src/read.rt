@@ -14,7 +14,7 @@ use tween::{Tween, within};
 
 // done is how many records were read: where the replay stopped, the place of the record that was
 // refused. reached is how far it had come before that record.
-#[derive(Drop)]
+#[derive(Clone, Copy)]
 pub struct Replayed {
     pub reached: Replay,
     pub done: usize,

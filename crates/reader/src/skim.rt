@@ -11,7 +11,7 @@ use tween::{Glided, Tween, glide};
 
 // What the common record changes, so that it can be set in place: a step of a tween that runs and goes on
 // running, with one fold at most. Unsure says nothing: `hear` answers every record.
-#[derive(Drop)]
+#[derive(Clone, Copy)]
 pub enum Skimmed {
     // The record's number and gap; delay_elapsed; and what folding changes.
     To(u16, u16, f32, Folding),

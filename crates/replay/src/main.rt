@@ -1,5 +1,7 @@
 // The fixed list of the Rust's answers, asked of the library with no Rust at hand: how many of each
 // call were compared, and how many differ.
+#![tactic(auto)]
+
 mod easings;
 mod read;
 mod report;

@@ -4,7 +4,7 @@ ghost use Rattle.std.specs.Prelude.{◌<◌, ◌≤◌};
 
 use rows::{Row, nothing};
 
-#[derive(Drop)]
+#[derive(Clone, Copy)]
 pub struct Entry {
     pub is_whole: bool,
     pub call: u32,
@@ -12,7 +12,7 @@ pub struct Entry {
 }
 
 // Bytes that were read; is_whole: as many as were asked for.
-#[derive(Drop)]
+#[derive(Clone, Copy)]
 struct Part {
     is_whole: bool,
     bytes: [u8; 4096],

@@ -7,14 +7,14 @@ use rows::{Row, is_answer, length_at, nothing, track_in, tween_in, word};
 use words::{LaxTrack, LaxTween};
 
 // The records that were last given.
-#[derive(Drop)]
+#[derive(Clone, Copy)]
 struct Given {
     tween: LaxTween,
     track: LaxTrack,
 }
 
 // What was found so far. counts has a place for each call.
-#[derive(Drop)]
+#[derive(Clone, Copy)]
 pub struct Tally {
     pub counts: [u64; 48],
     pub cases: u64,

@@ -28,7 +28,7 @@ pub fn float_word(x: f32) -> u32
 }
 
 // Words one behind the other: the first count of the list. Behind them it is 0.
-#[derive(Drop)]
+#[derive(Clone, Copy)]
 pub struct Row {
     pub list: [u32; 1024],
     pub count: usize,

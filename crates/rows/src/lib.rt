@@ -1,5 +1,7 @@
 // The words of the fixed list: records and lists read from them, and the library's answers written
 // as them, in rows by value. All of these are inner steps of the program `replay`, and no calls.
+#![tactic(auto)]
+
 mod answers;
 mod entries;
 mod given;

@@ -7,7 +7,7 @@ use tween::{Glided, Tween, glide, value_by};
 
 // As far as the common steps went: the tween behind them, the place of the step that is next, and how many
 // values of the run are not settled so far.
-#[derive(Drop)]
+#[derive(Clone, Copy)]
 pub struct Stretch {
     pub tween: Tween,
     pub next: usize,

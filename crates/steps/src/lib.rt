@@ -1,4 +1,6 @@
 // A run of steps in one call: what an archive does all day. The record is checked once.
+#![tactic(auto)]
+
 mod gliding;
 mod run;
 mod take;

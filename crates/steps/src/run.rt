@@ -8,7 +8,7 @@ use crate::take::{Taken, take};
 use refusal::Refusal;
 use tween::{Tween, within};
 
-#[derive(Drop)]
+#[derive(Clone, Copy)]
 pub enum Outcome {
     Finished,
     Refused(Refusal),
@@ -16,7 +16,7 @@ pub enum Outcome {
 
 // done is how many steps were taken: where the run stopped, the place of the step that was refused. The
 // tween is as it stood before that step. unsettled is how many of the values written are not settled.
-#[derive(Drop)]
+#[derive(Clone, Copy)]
 pub struct Run {
     pub tween: Tween,
     pub done: usize,

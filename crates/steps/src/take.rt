@@ -7,7 +7,7 @@ use bezier::Found;
 use refusal::Refusal;
 use tween::{Tween, Updated, step_on, value_by};
 
-#[derive(Drop)]
+#[derive(Clone, Copy)]
 pub enum Taken {
     // The tween behind the step, its value with the search behind it, and the folds.
     Took(Tween, Found, u32),

@@ -1,4 +1,6 @@
 // What an auditor asks of a log, gathered record by record in memory of a fixed size.
+#![tactic(auto)]
+
 mod lists;
 mod survey;
 

@@ -4,7 +4,7 @@ use reader::Last;
 
 // A record. number is its own, last the one before; what is missing before it; and, of an update, its step
 // in seconds and the folds that it made.
-#[derive(Drop)]
+#[derive(Clone, Copy)]
 pub struct Seen {
     pub place: u64,
     pub gap: u16,
@@ -17,7 +17,7 @@ pub struct Seen {
 // The first 20 records each that have some missing before them, that repeat the one before, and that made
 // more than one fold; and the five that made the most folds, in falling order. least is the folds of the
 // fifth. Places that are not in use hold zeros.
-#[derive(Drop)]
+#[derive(Clone, Copy)]
 pub struct Lists {
     pub gaps: [Seen; 20],
     pub repeats: [Seen; 20],

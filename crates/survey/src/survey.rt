@@ -12,7 +12,7 @@ use tween::Tween;
 
 // How many records were read, repeats too; how many of them have some missing before them, repeat the one
 // before, and made more than one fold. Each stays at 18,446,744,073,709,551,615 where it would pass it.
-#[derive(Drop)]
+#[derive(Clone, Copy)]
 pub struct Counts {
     pub records: u64,
     pub gaps: u64,
@@ -21,7 +21,7 @@ pub struct Counts {
 }
 
 // refused is the number of the refusal that stopped it, 0 for none.
-#[derive(Drop)]
+#[derive(Clone, Copy)]
 pub struct Survey {
     pub reached: Replay,
     pub counts: Counts,

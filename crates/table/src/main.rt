@@ -1,4 +1,6 @@
 // A ramp of a pump, sampled to a table: the setpoint after each second, and the passes folded in it.
+#![tactic(auto)]
+
 mod print;
 
 use easing::Easing;

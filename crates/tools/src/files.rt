@@ -34,7 +34,7 @@ pub fn say_argument(fd: i32, i: usize) {
 }
 
 // bytes of the buffer were filled. failed: a read failed, and not the file ended.
-#[derive(Drop)]
+#[derive(Clone, Copy)]
 pub struct Filled {
     pub bytes: usize,
     pub failed: bool,
@@ -106,7 +106,7 @@ pub fn read_text(argument: usize, buffer: &mut [u8]) -> Filled
     }
 }
 
-#[derive(Drop)]
+#[derive(Clone, Copy)]
 pub enum Length {
     Bytes(u64),
     // As a pipe's.

@@ -2,7 +2,7 @@
 use crate::files::{Length, fill_from};
 use event_log::{has_mark, has_version};
 
-#[derive(Drop)]
+#[derive(Clone, Copy)]
 pub enum Head {
     Whole,
     // The number of a refusal.

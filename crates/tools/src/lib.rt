@@ -1,4 +1,6 @@
 // What the programs share: files, and lines for a person to read.
+#![tactic(auto)]
+
 mod calls;
 mod ends;
 mod explain;

@@ -6,7 +6,7 @@ use ramp::{Parsed, parse_ramp};
 use tween::Tween;
 use words::{LaxEasing, LaxLoop};
 
-#[derive(Drop)]
+#[derive(Clone, Copy)]
 pub enum RampRead {
     Ramp(Tween),
     // Standard error has a line that says why.

@@ -1,5 +1,7 @@
 // A track lent as 518 words: 64 places of eight (time, value, kind, four parameters, a count), then
 // count, elapsed, mode, passes, loop_count, complete. Frames are looked at where they stand.
+#![tactic(auto)]
+
 mod checking;
 mod filling;
 mod playing;

@@ -2,20 +2,20 @@
 use crate::record::{Tween, TweenSnapshot};
 use refusal::Refusal;
 
-#[derive(Drop)]
+#[derive(Clone, Copy)]
 pub enum Snapped {
     Snapshot(TweenSnapshot),
     Refused(Refusal),
 }
 
-#[derive(Drop)]
+#[derive(Clone, Copy)]
 pub enum Changed {
     Done(Tween),
     Refused { tween: Tween, refusal: Refusal },
 }
 
 // folds counts the completing one too; running is false once the tween is Completed.
-#[derive(Drop)]
+#[derive(Clone, Copy)]
 pub enum Updated {
     Ran {
         tween: Tween,

@@ -1,4 +1,6 @@
 // A ramp from one value to another, and its clock.
+#![tactic(auto)]
+
 mod answers;
 mod beside;
 mod change;

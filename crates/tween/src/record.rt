@@ -5,7 +5,7 @@ ghost use Rattle.tween.specs.Parts.{new_of, with_ends};
 use easing::Easing;
 use loop_mode::Loop;
 
-#[derive(Drop)]
+#[derive(Clone, Copy)]
 pub enum TweenState {
     // Within the delay.
     Idle,
@@ -14,7 +14,7 @@ pub enum TweenState {
     Completed,
 }
 
-#[derive(Drop)]
+#[derive(Clone, Copy)]
 pub struct Tween {
     pub start: f32,
     pub end: f32,
@@ -36,7 +36,7 @@ pub struct Tween {
 }
 
 // What moves in a tween.
-#[derive(Drop)]
+#[derive(Clone, Copy)]
 pub struct TweenSnapshot {
     pub elapsed: f32,
     pub delay_elapsed: f32,

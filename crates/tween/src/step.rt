@@ -68,7 +68,7 @@ fn advance(t: Tween, waited: f32, e: f32) -> Updated
 }
 
 // How a step begins. The rest of the update is one place, so that it can be inlined.
-#[derive(Drop)]
+#[derive(Clone, Copy)]
 pub enum Begun {
     // Paused or Completed.
     Still(bool),

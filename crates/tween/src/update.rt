@@ -14,7 +14,7 @@ use refusal::Refusal;
 
 // What the step changes, so that a caller can set it in place: delay_elapsed, and what folding
 // changes. Unsure says nothing: `step_on` answers every step.
-#[derive(Drop)]
+#[derive(Clone, Copy)]
 pub enum Glided {
     To { waited: f32, folding: Folding },
     Unsure,

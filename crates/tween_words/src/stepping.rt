@@ -13,7 +13,7 @@ use loop_mode::passes;
 use words::flag_word;
 
 // What a fold makes of loop_count and ping_pong_reverse, and whether it is the last.
-#[derive(Drop)]
+#[derive(Clone, Copy)]
 pub struct Turn {
     pub count: u32,
     pub flag: u32,
@@ -29,7 +29,7 @@ impl Turn {
 }
 
 // Which words change, and to what pattern.
-#[derive(Drop)]
+#[derive(Clone, Copy)]
 pub enum Slid {
     // elapsed.
     To(u32),
@@ -44,7 +44,7 @@ pub enum Slid {
     Unsure,
 }
 
-#[derive(Drop)]
+#[derive(Clone, Copy)]
 pub enum Stepped {
     Ran { folds: u32, running: bool },
     Unsure,

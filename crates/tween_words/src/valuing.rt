@@ -7,7 +7,7 @@ use crate::fitting::fits;
 use bezier::Found;
 use easing_words::{Drawn, Searched, draw, search};
 
-#[derive(Drop)]
+#[derive(Clone, Copy)]
 pub enum Valued {
     Plain(f32),
     Searched(Found),

@@ -1,23 +1,25 @@
 // A time and a progress are both an f32. Two types keep them apart: a track is asked for the one
 // and sought by the other.
+#![tactic(auto)]
+
 use refusal::Refusal;
 
 // A time in seconds.
-#[derive(Drop)]
+#[derive(Clone, Copy)]
 pub struct Seconds(pub f32);
 
 // How far along: 0 at the start, 1 at the end.
-#[derive(Drop)]
+#[derive(Clone, Copy)]
 pub struct Progress(pub f32);
 
 // What the calls answer that are asked for a time or a progress.
-#[derive(Drop)]
+#[derive(Clone, Copy)]
 pub enum InSeconds {
     Seconds(Seconds),
     Refused(Refusal),
 }
 
-#[derive(Drop)]
+#[derive(Clone, Copy)]
 pub enum InProgress {
     Progress(Progress),
     Refused(Refusal),

@@ -8,7 +8,7 @@ use easing::{Easing, KINDS, Params};
 // SlowMo: linear_ratio in a, power in b. CustomBounce: strength in a. ExpoScale: start in a, end in b.
 // Words that a kind has no use for are not looked at, and are written as 0.
 #[repr(C)]
-#[derive(Drop)]
+#[derive(Clone, Copy)]
 pub struct LaxEasing {
     pub kind: u32,
     pub a: f32,
@@ -21,7 +21,7 @@ pub struct LaxEasing {
 // The number of a call whose words are no kind, no mode or no state.
 pub const UNKNOWN_WORD: u32 = 100;
 
-#[derive(Drop)]
+#[derive(Clone, Copy)]
 pub enum EasingRead {
     Known(Easing),
     Unknown,

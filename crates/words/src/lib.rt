@@ -1,4 +1,6 @@
 // Records as words of 32 bits, for the C interface. Reading answers Unknown where a word is no kind, no mode or no state.
+#![tactic(auto)]
+
 mod kinds;
 mod lent;
 mod modes;

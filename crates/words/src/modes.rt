@@ -8,19 +8,19 @@ use tween::TweenState;
 // mode: 0 Once, 1 Times, 2 Forever, 3 PingPong, 4 PingPongTimes. passes is looked at in 1 and 4, and
 // is written as 0 in the others.
 #[repr(C)]
-#[derive(Drop)]
+#[derive(Clone, Copy)]
 pub struct LaxLoop {
     pub mode: u32,
     pub passes: u32,
 }
 
-#[derive(Drop)]
+#[derive(Clone, Copy)]
 pub enum LoopRead {
     Known(Loop),
     Unknown,
 }
 
-#[derive(Drop)]
+#[derive(Clone, Copy)]
 pub enum StateRead {
     Known(TweenState),
     Unknown,

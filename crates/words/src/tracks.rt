@@ -11,7 +11,7 @@ use keyframe::Track;
 use loop_mode::Loop;
 
 #[repr(C)]
-#[derive(Drop)]
+#[derive(Clone, Copy)]
 pub struct LaxKeyframe {
     pub time: f32,
     pub value: f32,
@@ -30,7 +30,7 @@ impl LaxKeyframe {
     }
 }
 
-#[derive(Drop)]
+#[derive(Clone, Copy)]
 pub enum FrameRead {
     Known(Keyframe),
     Unknown,
@@ -39,7 +39,7 @@ pub enum FrameRead {
 // The first count places are the track's frames. The places behind them are not looked at, and come
 // back as they came.
 #[repr(C)]
-#[derive(Drop)]
+#[derive(Clone, Copy)]
 pub struct LaxTrack {
     pub frames: [LaxKeyframe; 64],
     pub count: u32,

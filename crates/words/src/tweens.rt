@@ -9,7 +9,7 @@ use crate::modes::{
 use tween::Tween;
 
 #[repr(C)]
-#[derive(Drop)]
+#[derive(Clone, Copy)]
 pub struct LaxTween {
     pub start: f32,
     pub end: f32,
@@ -25,7 +25,7 @@ pub struct LaxTween {
     pub ping_pong_reverse: u32,
 }
 
-#[derive(Drop)]
+#[derive(Clone, Copy)]
 pub enum TweenRead {
     Known(Tween),
     Unknown,

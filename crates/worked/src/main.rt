@@ -1,4 +1,6 @@
 // The worked examples of keyframe tracks, asked of the library: a line for each, and how many hold.
+#![tactic(auto)]
+
 mod answers;
 mod report;
 mod tracks;
