@@ -1,5 +1,4 @@
 -- `cubic_bezier` meets its contract: each way out is the definition at what the test and the callees said. Assumes nothing.
-use borrow.Author.Rules.{rules}
 use Rattle.bezier.specs.Bezier.{solution_of, cubic_bezier}
 use Rattle.bezier.proofs.bezier.cubic_bezier.Goals as goal
 

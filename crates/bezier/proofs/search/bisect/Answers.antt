@@ -1,10 +1,9 @@
 -- `bisect` meets its contract. The loop's invariant: the definition from the span at hand, behind the bisections made, finds what it finds from the start. Assumes nothing.
-use Prim.Native.Nat.{◌≤◌, ◌-◌}
-use mathlib.Core.Path.{◌≡◌, sym, ap, ◌∙◌}
+use mathlib.Core.Path.{sym, ap, ◌∙◌}
 use mathlib.Core.Bool.{true, false}
 use native.Mathlib.Omega.{arith}
 use borrow.Author.Rules.{rules}
-use Rattle.bezier.specs.Search.{solved_at, after, near_of, bisect_of, bisect_from}
+use Rattle.bezier.specs.Search.{solved_at, after}
 use Rattle.bezier.proofs.Steps.{counts, after_none, after_both, bisect-near, bisect-next, bisect-spent}
 use Rattle.bezier.proofs.search.bisect.Goals as goal
 

@@ -1,11 +1,7 @@
 -- `bisect` meets its contract. The loop's invariant: the definition from the span at hand, behind the bisections made, finds what it finds from the start. Assumes nothing.
 use Prim.Native.Nat.{◌≤◌, ◌-◌}
-use mathlib.Core.Path.{◌≡◌, sym, ap, ◌∙◌}
-use mathlib.Core.Bool.{true, false}
-use native.Mathlib.Omega.{arith}
-use borrow.Author.Rules.{rules}
-use Rattle.bezier.specs.Search.{solved_at, after, near_of, bisect_of, bisect_from}
-use Rattle.bezier.proofs.Steps.{counts, after_none, after_both, bisect-near, bisect-next, bisect-spent}
+use mathlib.Core.Path.{◌≡◌}
+use Rattle.bezier.specs.Search.{after, near_of, bisect_of, bisect_from}
 use Rattle.bezier.proofs.search.bisect.Given as goal
 
 abbrev pub invariant-loop-k : goal.invariant-loop-k

@@ -1,5 +1,4 @@
 -- `cut` meets its contract: each arm is the part that the definition picks at the test. Assumes nothing.
-use borrow.Author.Rules.{rules}
 use Rattle.bezier.proofs.search.cut.Goals as goal
 
 pub returns-then-x-t : goal.returns-then-x-t

@@ -1,5 +1,4 @@
 -- `newton_turn` meets its contract: each way out is the definition at what the tests and the callees said. Assumes nothing.
-use borrow.Author.Rules.{rules}
 use mathlib.Core.Path.{◌≡◌, sym, ◌∙◌}
 use mathlib.Core.Bool.{false}
 use Rattle.bezier.specs.Search.{near_of}

@@ -1,12 +1,7 @@
 -- `solve` meets its contract. The loop's invariant: the definition from the u at hand, behind the steps made, finds what it finds from t. Assumes nothing.
 use Prim.Native.Nat.{◌≤◌, ◌-◌}
-use mathlib.Core.Path.{◌≡◌, sym, ap, ◌∙◌}
-use mathlib.Core.Bool.{true}
-use mathlib.Core.Logic.{⊎_elim}
-use native.Mathlib.Omega.{arith}
-use borrow.Author.Rules.{rules}
-use Rattle.bezier.specs.Search.{solved_at, after, turn_of, newton_of, solve_of}
-use Rattle.bezier.proofs.Steps.{counts, after_none, after_both, newton-near, newton-flat, newton-next, newton-spent}
+use mathlib.Core.Path.{◌≡◌}
+use Rattle.bezier.specs.Search.{after, turn_of, newton_of, solve_of}
 use Rattle.bezier.proofs.search.solve.Given as goal
 
 abbrev pub invariant-loop-made : goal.invariant-loop-made
