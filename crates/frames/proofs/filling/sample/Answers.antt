@@ -1,7 +1,6 @@
 -- `sample` meets its contract: what `pick` answers is the sample. Assumes nothing.
 use mathlib.Core.Path.{◌≡◌}
 use native.Mathlib.Omega.{arith}
-use borrow.Author.Rules.{rules}
 use lib.ListN.{length}
 use Rattle.frames.proofs.Picks.{picked-by}
 use Rattle.frames.proofs.Walks.{array_long}

@@ -1,12 +1,10 @@
 -- `earlier` meets its contract. The invariant: i frames are passed, and those that follow them are counted from i on. The measure is the frames that are left. Assumes nothing.
-use Prim.Native.Nat.{◌≤◌, ◌<◌, ◌-◌, ◌+◌}
+use Prim.Native.Nat.{◌<◌}
 use mathlib.Core.Path.{◌≡◌}
-use lib.ListN.{length, take, drop}
+use lib.ListN.{length}
 use lib.Ieee.{lt}
 use native.Mathlib.Omega.{arith}
-use borrow.Author.Rules.{rules}
 use Rattle.frames.specs.declared.frame.Keyframe.{Keyframe}
-use Rattle.frames.specs.Inner.{earlier_of}
 use Rattle.frames.proofs.Walks.{array_long, lead-yes, lead-no, lead-end}
 use Rattle.frames.proofs.pushing.earlier.Goals as goal
 

@@ -1,11 +1,7 @@
 -- `insert` meets its contract. The invariant: the frames from j on have moved one place up. The measure is j. Assumes nothing.
 use Prim.Native.Nat.{◌≤◌}
 use mathlib.Core.Path.{◌≡◌}
-use lib.ListN.{length}
-use native.Mathlib.Omega.{arith}
-use borrow.Author.Rules.{rules}
-use Rattle.frames.proofs.Walks.{array_long}
-use Rattle.frames.proofs.Shifts.{opened, open_none, open_step, open-put}
+use Rattle.frames.proofs.Shifts.{opened}
 use Rattle.frames.proofs.pushing.insert.Given as goal
 
 abbrev pub invariant-loop-j : goal.invariant-loop-j

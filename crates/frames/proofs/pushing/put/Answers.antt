@@ -2,16 +2,14 @@
 use Prim.Native.Nat.{◌<◌, ◌≤◌}
 use mathlib.Core.Path.{◌≡◌}
 use mathlib.Core.Bool.{false}
-use mathlib.Core.Logic.{⊎_elim}
 use lib.ListN.{length, get_or}
 use lib.Ieee.{eq}
 use native.Mathlib.Omega.{arith}
-use borrow.Author.Rules.{rules}
 use Rattle.frames.specs.Limits.{no_frame}
 use Rattle.frames.proofs.Walks.{array_long}
 use Rattle.frames.proofs.Places.{put_same, put-new, put_full}
 use Rattle.frames.proofs.pushing.put.Goals as goal
-use Rattle.frames.proofs.pushing.put.Goals.{Joined-p-n, Start}
+use Rattle.frames.proofs.pushing.put.Goals.{Joined-p-n, Start, then-p-n+else-frames-p, else-p-n}
 
 long : (c : Start) → c.args.n ≤ length c.args.frames
 long c =
@@ -20,7 +18,7 @@ long c =
 
 -- where the two ways meet, no frame has the time
 other : (c : Joined-p-n) → c.earlier-p.result < c.args.n → eq (get_or c.args.frames c.earlier-p.result no_frame).time c.args.k.time ≡ false
-other c h = elim c.if-p-n.branch [ else-frames-p w ↦ ? | else-p-n w ↦ absurd (omega arith) ]
+other c h = elim c.if-p-n.branch [ then-p-n+else-frames-p w ↦ w.if-frames-p.false | else-p-n w ↦ absurd (omega arith) ]
 
 pub returns-then-frames-p : goal.returns-then-frames-p
 returns-then-frames-p c = put_same c.args.frames c.args.n c.args.k (long (goal.at.returns-then-frames-p c).Start) c.requires c.earlier-p.result c.earlier-p.ensures.1 c.if-p-n.true c.if-frames-p.true

@@ -1,5 +1,4 @@
 -- `along` meets its contract, by what its callees ensure. Assumes nothing.
-use borrow.Author.Rules.{rules}
 use Rattle.frames.proofs.sampling.along.Goals as goal
 
 pub returns : goal.returns

@@ -1,5 +1,4 @@
 -- `between` meets its contract, by what its callees ensure. Assumes nothing.
-use borrow.Author.Rules.{rules}
 use Rattle.frames.specs.Sampling.{between_of}
 use Rattle.frames.proofs.sampling.between.Goals as goal
 

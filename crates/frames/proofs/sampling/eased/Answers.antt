@@ -1,5 +1,4 @@
 -- `eased` meets its contract. Assumes nothing.
-use borrow.Author.Rules.{rules}
 use mathlib.Core.Path.{sym, ap, ◌∙◌}
 use lib.Ieee.{of_bits}
 use Rattle.frames.specs.Sampling.{found_in}

@@ -1,5 +1,4 @@
 -- `pick` meets its contract. Assumes nothing.
-use borrow.Author.Rules.{rules}
 use Rattle.frames.proofs.sampling.pick.Goals as goal
 
 pub returns-then-t-first : goal.returns-then-t-first

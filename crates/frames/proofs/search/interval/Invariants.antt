@@ -1,16 +1,10 @@
 -- `interval` meets its contract. The invariant: what is counted and what is left to count make the whole count. The measure is the places that are left. Assumes nothing.
 use Prim.Native.Nat.{◌+◌, ◌-◌, ◌<◌, ◌≤◌}
 use mathlib.Core.Path.{◌≡◌}
-use native.Mathlib.Omega.{arith}
-use borrow.Author.Rules.{rules}
-use mir.Syntax.{w32}
-use mir.Val.{Fits}
 use lib.ListN.{take, drop}
 use lib.Ieee.{Float, le}
-use Rattle.math.proofs.Tallies.{byte-below}
 use Rattle.frames.specs.Sampling.{count_of}
 use Rattle.frames.specs.Inner.{counted}
-use Rattle.frames.proofs.Counts.{byte_fits, count_next, count_past, not-nan}
 use Rattle.frames.proofs.search.interval.Given as goal
 
 abbrev pub invariant-loop-i : goal.invariant-loop-i

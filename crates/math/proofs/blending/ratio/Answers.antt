@@ -1,5 +1,4 @@
 -- `ratio` meets its contract. Assumes nothing.
-use Rattle.std.proofs.Common.{rules}
 use lib.Ieee.{of_bits}
 use Rattle.math.proofs.blending.ratio.Goals as goal
 

@@ -1,5 +1,4 @@
 -- `is_finite` meets its contract. Assumes nothing.
-use Rattle.std.proofs.Common.{rules}
 use lib.Ieee.{neg}
 use Rattle.math.proofs.Form.{between-infinities}
 use Rattle.math.proofs.class.is_finite.Goals as goal

@@ -1,5 +1,5 @@
 -- `pattern` meets its contract: a significand is moved up to 24 binary digits, or as far as its units go. Assumes nothing.
-use Rattle.std.proofs.Common.{◌≡◌, ℕ, ◌+◌, ◌-◌, ◌*◌, ◌%◌, ◌^◌, ◌<◌, ap, ◌∙◌, mod-eq_of_lt, arith, rules}
+use Rattle.std.proofs.Common.{◌≡◌, ℕ, ◌+◌, ◌-◌, ◌*◌, ◌%◌, ◌^◌, ◌<◌, ap, ◌∙◌, mod-eq_of_lt, arith}
 use lib.Count.{count_leading_zeros}
 use lib.Ieee.{binary32, of_bits}
 use Rattle.math.proofs.Ordered.{with-sign}

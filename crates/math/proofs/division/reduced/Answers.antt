@@ -1,5 +1,5 @@
 -- `reduced` meets its contract: each turn leaves the remainder as it is. The measure is how many digits are left. Assumes nothing.
-use Rattle.std.proofs.Common.{◌≡◌, ℕ, ◌-◌, ◌*◌, ◌%◌, ◌^◌, ◌<◌, ◌≤◌, refl, ap, ◌∙◌, lt_of_lt_of_le, mod-lt, mod-eq_of_lt, arith, pow_mono, shl_lt, rules}
+use Rattle.std.proofs.Common.{◌≡◌, ℕ, ◌-◌, ◌*◌, ◌%◌, ◌^◌, ◌<◌, ◌≤◌, refl, ap, ◌∙◌, lt_of_lt_of_le, mod-lt, mod-eq_of_lt, arith, pow_mono, shl_lt}
 use Rattle.math.proofs.Remainders.{turn}
 use Rattle.math.proofs.division.reduced.Goals as goal
 
@@ -21,9 +21,9 @@ loop-digits-smaller c = omega arith
 
 pub loop-digits-preserved : goal.loop-digits-preserved
 loop-digits-preserved c = let l = c.loop-digits in let d = c.args.d in let n = l.digits in (
-      omega (arith, mod-lt (l.left * 2 ^ 40 % 2 ^ 64) c.requires.1),
-      ap (λ (z : ℕ). z % d * 2 ^ (n - 40) % d) (room l.left 40 l.invariant.0 (omega arith)) ∙ turn l.left n d (omega arith) ∙ l.invariant.1,
-    )
+  omega (arith, mod-lt (l.left * 2 ^ 40 % 2 ^ 64) c.requires.1),
+  ap (λ (z : ℕ). z % d * 2 ^ (n - 40) % d) (room l.left 40 l.invariant.0 (omega arith)) ∙ turn l.left n d (omega arith) ∙ l.invariant.1,
+)
 
 pub overflow_shl-result : goal.overflow_shl-result
 overflow_shl-result c = omega arith

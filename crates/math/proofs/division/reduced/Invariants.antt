@@ -1,6 +1,5 @@
 -- `reduced` meets its contract: each turn leaves the remainder as it is. The measure is how many digits are left. Assumes nothing.
-use Rattle.std.proofs.Common.{◌≡◌, ℕ, ◌-◌, ◌*◌, ◌%◌, ◌^◌, ◌<◌, ◌≤◌, refl, ap, ◌∙◌, lt_of_lt_of_le, mod-lt, mod-eq_of_lt, arith, pow_mono, shl_lt, rules}
-use Rattle.math.proofs.Remainders.{turn}
+use Rattle.std.proofs.Common.{◌≡◌, ◌*◌, ◌%◌, ◌^◌, ◌<◌}
 use Rattle.math.proofs.division.reduced.Given as goal
 
 abbrev pub invariant-loop-digits : goal.invariant-loop-digits

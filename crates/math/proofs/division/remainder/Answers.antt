@@ -1,5 +1,5 @@
 -- `remainder` meets its contract: each way out is told by the patterns of x and y. Assumes nothing.
-use Rattle.std.proofs.Common.{◌≡◌, ◌-◌, ◌*◌, ◌%◌, ◌^◌, ◌<◌, ◌≤◌, refl, ◌∙◌, mod-lt, arith, rules}
+use Rattle.std.proofs.Common.{◌≡◌, ◌-◌, ◌*◌, ◌%◌, ◌^◌, ◌<◌, ◌≤◌, refl, ◌∙◌, mod-lt, arith}
 use denote.Floats.{passes}
 use lib.Ieee.{nan, binary32, div, of_bits}
 use Rattle.math.proofs.Remainders.{Patterns, by-nan, by-larger, of-endless, by_zero, by-smaller}

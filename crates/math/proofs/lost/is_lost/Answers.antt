@@ -1,5 +1,4 @@
 -- `is_lost` meets its contract. Assumes nothing.
-use Rattle.std.proofs.Common.{rules}
 use lib.Ieee.{of_bits}
 use Rattle.math.proofs.lost.is_lost.Goals as goal
 

@@ -1,5 +1,5 @@
 -- `bits` meets its contract. Assumes nothing.
-use Rattle.std.proofs.Common.{sym, ◌∙◌, rules}
+use Rattle.std.proofs.Common.{sym, ◌∙◌}
 use Rattle.math.proofs.Patterns.{number, bits_of_nan}
 use Rattle.math.proofs.pattern.bits.Goals as goal
 

@@ -1,5 +1,5 @@
 -- `is_value` meets its contract. Assumes nothing.
-use Rattle.std.proofs.Common.{◌∙◌, rules}
+use Rattle.std.proofs.Common.{◌∙◌}
 use lib.Ieee.{of_bits, neg}
 use Rattle.math.proofs.Form.{size-between}
 use Rattle.math.proofs.range.is_value.Goals as goal

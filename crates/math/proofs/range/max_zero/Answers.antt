@@ -1,5 +1,5 @@
 -- `max_zero` meets its contract: an f32 that is at least the least one above 0 is above 0. Assumes nothing.
-use Rattle.std.proofs.Common.{◌≡◌, Bool, true, false, sym, ap, ◌∙◌, rules}
+use Rattle.std.proofs.Common.{◌≡◌, Bool, true, false, sym, ap, ◌∙◌}
 use denote.Floats.{passes}
 use lib.Ieee.{Float, lt, le}
 use Rattle.math.specs.Rounded.{zero_f}

@@ -1,5 +1,5 @@
 -- `ceil` meets its contract. That a float is whole from 2 ^ 24 on rests on x being a value of binary32. Assumes nothing.
-use Rattle.std.proofs.Common.{◌≡◌, Bool, true, false, pos, sym, ap, ◌∙◌, subst, arith, rules}
+use Rattle.std.proofs.Common.{◌≡◌, Bool, true, false, pos, sym, ap, ◌∙◌, subst, arith}
 use denote.Floats.{passes}
 use lib.Ieee.{Float, binary32, neg, of_int, lt}
 use Rattle.math.proofs.Ceiling.{Above, above_zero, below-zero, stays}

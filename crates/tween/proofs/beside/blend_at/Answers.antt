@@ -1,5 +1,4 @@
 -- `blend_at` meets its contract. Assumes nothing.
-use Rattle.std.proofs.Common.{rules}
 use Rattle.tween.proofs.beside.blend_at.Goals as goal
 
 pub returns-then-t : goal.returns-then-t

@@ -1,5 +1,5 @@
 -- `value_by` meets its contract, branch by branch: a tween within its limits has a value. Assumes nothing.
-use Rattle.std.proofs.Common.{sym, ap, ◌∙◌, rules}
+use Rattle.std.proofs.Common.{sym, ap, ◌∙◌}
 use lib.Ieee.{of_bits}
 use Rattle.bezier.specs.Bezier.{plain_of}
 use Rattle.easing.specs.declared.answers.Eased.TheVariants.{Value}

@@ -1,5 +1,4 @@
 -- `settings_within` meets its contract, by what its callees ensure. Assumes nothing.
-use Rattle.std.proofs.Common.{rules}
 use lib.Ieee.{of_bits}
 use Rattle.tween.specs.Limits.{settings_within}
 use Rattle.tween.proofs.limits.settings_within.Goals as goal

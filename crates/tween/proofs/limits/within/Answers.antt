@@ -1,5 +1,4 @@
 -- `within` meets its contract, by what its callees ensure. Assumes nothing.
-use Rattle.std.proofs.Common.{rules}
 use Rattle.tween.specs.Limits.{within_of}
 use Rattle.tween.proofs.limits.within.Goals as goal
 

@@ -1,5 +1,4 @@
 -- `blend_in` meets its contract. Assumes nothing.
-use Rattle.std.proofs.Common.{rules}
 use Rattle.tween.proofs.read.blend_in.Goals as goal
 
 pub returns-then-t : goal.returns-then-t

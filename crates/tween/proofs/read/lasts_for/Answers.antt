@@ -1,5 +1,4 @@
 -- `lasts_for` meets its contract: each arm is told its mode. Assumes nothing.
-use Rattle.std.proofs.Common.{rules}
 use Rattle.tween.proofs.read.lasts_for.Goals as goal
 
 pub returns-in-Once : goal.returns-in-Once

@@ -1,5 +1,4 @@
 -- `value_in` meets its contract, by what its callees ensure. Assumes nothing.
-use Rattle.std.proofs.Common.{rules}
 use lib.Ieee.{of_bits}
 use Rattle.tween.specs.Calls.{value_of}
 use Rattle.tween.proofs.read.value_in.Goals as goal

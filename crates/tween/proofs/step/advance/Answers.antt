@@ -1,5 +1,4 @@
 -- `advance` meets its contract, by what its callees ensure. Assumes nothing.
-use Rattle.std.proofs.Common.{rules}
 use lib.Ieee.{of_bits}
 use Rattle.tween.specs.Update.{folded, advanced}
 use Rattle.tween.proofs.step.advance.Goals as goal

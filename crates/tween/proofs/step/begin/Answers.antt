@@ -1,5 +1,4 @@
 -- `begin` meets its contract: each arm is told its state. Assumes nothing.
-use Rattle.std.proofs.Common.{rules}
 use Rattle.tween.specs.Update.{by_state}
 use Rattle.tween.proofs.step.begin.Goals as goal
 

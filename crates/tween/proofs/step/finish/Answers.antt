@@ -1,5 +1,4 @@
 -- `finish` meets its contract: each arm is told how the step began. Assumes nothing.
-use Rattle.std.proofs.Common.{rules}
 use Rattle.tween.proofs.step.finish.Goals as goal
 
 pub returns-in-Still : goal.returns-in-Still

@@ -1,5 +1,5 @@
 -- `run` meets its contract. Assumes nothing.
-use Rattle.std.proofs.Common.{◌≡◌, Bool, true, false, ◌&&◌, subst, rules}
+use Rattle.std.proofs.Common.{◌≡◌, Bool, true, false, ◌&&◌, subst}
 use lib.Ieee.{Float, of_bits, lt}
 use Rattle.math.specs.Rounded.{zero_f, ◌⊗◌}
 use Rattle.math.specs.Lost.{lost_by}

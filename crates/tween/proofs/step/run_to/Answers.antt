@@ -1,5 +1,4 @@
 -- `run_to` meets its contract, by what its callees ensure. Assumes nothing.
-use Rattle.std.proofs.Common.{rules}
 use Rattle.tween.proofs.step.run_to.Goals as goal
 
 pub returns : goal.returns

@@ -1,5 +1,4 @@
 -- `step_on` meets its contract: what is left, once it has begun, is the definition by state. Assumes nothing.
-use Rattle.std.proofs.Common.{rules}
 use lib.Ieee.{of_bits}
 use Rattle.tween.proofs.Bounds.{within_count}
 use Rattle.tween.specs.Update.{update_of}

@@ -1,5 +1,4 @@
 -- `is_within_limits` meets its contract, by what its callees ensure. Assumes nothing.
-use borrow.Author.Rules.{rules}
 use Rattle.frames.specs.Limits.{frame_within}
 use Rattle.frames.proofs.frame.Keyframe.is_within_limits.Goals as goal
 

@@ -1,5 +1,4 @@
 -- `eased_progress` meets its contract, by what its callees ensure. Assumes nothing.
-use Rattle.std.proofs.Common.{rules}
 use Rattle.math.proofs.Choice.{fails, passes}
 use Rattle.tween.specs.Calls.{eased_progress_of}
 use mathlib.Core.Path.{ap}

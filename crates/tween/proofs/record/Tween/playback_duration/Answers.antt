@@ -1,5 +1,4 @@
 -- `playback_duration` meets its contract, by what its callees ensure. Assumes nothing.
-use Rattle.std.proofs.Common.{rules}
 use Rattle.math.proofs.Choice.{fails, passes}
 use Rattle.tween.specs.Calls.{playback_duration_of}
 use mathlib.Core.Path.{ap}

@@ -1,5 +1,4 @@
 -- `reset` meets its contract, by what its callees ensure. Assumes nothing.
-use Rattle.std.proofs.Common.{rules}
 use Rattle.math.proofs.Choice.{fails, passes}
 use Rattle.tween.specs.Calls.{reset_of}
 use lib.Ieee.{of_bits}

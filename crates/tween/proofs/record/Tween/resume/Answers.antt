@@ -1,5 +1,4 @@
 -- `resume` meets its contract, by what its callees ensure. Assumes nothing.
-use Rattle.std.proofs.Common.{rules}
 use Rattle.math.proofs.Choice.{fails, passes}
 use Rattle.tween.specs.Calls.{resume_of}
 use mathlib.Core.Path.{ap}
