@@ -1,0 +1,17 @@
+-- `earlier` meets its contract. The invariant: i frames are passed, and those that follow them are counted from i on. The measure is the frames that are left. Assumes nothing.
+use Prim.Native.Nat.{◌≤◌, ◌<◌, ◌-◌, ◌+◌}
+use mathlib.Core.Path.{◌≡◌}
+use lib.ListN.{length, take, drop}
+use lib.Ieee.{lt}
+use native.Mathlib.Omega.{arith}
+use borrow.Author.Rules.{rules}
+use Rattle.frames.specs.declared.frame.Keyframe.{Keyframe}
+use Rattle.frames.specs.Inner.{earlier_of}
+use Rattle.frames.proofs.Walks.{array_long, lead-yes, lead-no, lead-end}
+use Rattle.frames.proofs.pushing.earlier.Given as goal
+
+abbrev pub invariant-loop-i : goal.invariant-loop-i
+invariant-loop-i l = (l.i ≤ l.n) × (l.i + earlier_of l.time (drop l.i (take l.n l.frames)) ≡ earlier_of l.time (take l.n l.frames))
+
+abbrev pub decreases-loop-i : goal.decreases-loop-i
+decreases-loop-i l = l.n - l.i
