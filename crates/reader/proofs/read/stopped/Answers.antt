@@ -1,0 +1,6 @@
+-- `stopped` meets its contract, by what `answer` ensures. Assumes nothing.
+use Rattle.std.proofs.Common.{rules}
+use Rattle.reader.proofs.read.stopped.Goals as goal
+
+pub returns : goal.returns
+returns c = c.answer.ensures
