@@ -1,5 +1,4 @@
 -- `changed` meets its contract: each arm is told its answer. Assumes nothing.
-use Rattle.std.proofs.Common.{rules}
 use Rattle.reader.proofs.hear.changed.Goals as goal
 
 pub returns-in-Done : goal.returns-in-Done

@@ -1,5 +1,5 @@
 -- `hear` meets its contract, by what its callees ensure. Assumes nothing.
-use Rattle.std.proofs.Common.{sym, ◌∙◌, rules}
+use Rattle.std.proofs.Common.{sym, ◌∙◌}
 use Rattle.reader.proofs.Heard.{hears-wrong, hears-repeat, hears-played}
 use Rattle.reader.proofs.hear.hear.Goals as goal
 

@@ -1,5 +1,5 @@
 -- `play` meets its contract, by what the tween's calls ensure. Assumes nothing.
-use Rattle.std.proofs.Common.{sym, ap, ◌∙◌, rules}
+use Rattle.std.proofs.Common.{sym, ap, ◌∙◌}
 use Rattle.reader.specs.Hearing.{played_of, by_update, by_change}
 use Rattle.reader.proofs.hear.play.Goals as goal
 

@@ -1,11 +1,10 @@
 -- `read_all` meets its contract. The invariant: the reading has reached record i, and where the tween is sure it is within its limits. The measure is the records that are left. Assumes nothing.
-use Rattle.std.proofs.Common.{◌≡◌, ◌-◌, ◌/◌, true, length, sym, ap, ◌∙◌, subst, arith, rules}
+use Rattle.std.proofs.Common.{sym, ap, ◌∙◌, subst, arith}
 use borrow.Author.Rules.{scaled_Fits}
-use Rattle.tween.specs.Limits.{within_of}
 use Rattle.reader.specs.Hearing.{heard_of}
 use Rattle.reader.specs.Inner.{Skims}
 use Rattle.reader.proofs.Heard.{heard-as}
-use Rattle.reader.proofs.Readings.{Reached, begins, here, place, goes_on, stops, finishes}
+use Rattle.reader.proofs.Readings.{begins, here, place, goes_on, stops, finishes}
 use Rattle.reader.proofs.read.read_all.Goals as goal
 
 pub loop-i-init : goal.loop-i-init

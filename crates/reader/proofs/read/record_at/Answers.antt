@@ -1,5 +1,4 @@
 -- `record_at` meets its contract. Assumes nothing.
-use Rattle.std.proofs.Common.{rules}
 use Rattle.math.proofs.Parts.{reads-part}
 use Rattle.reader.proofs.read.record_at.Goals as goal
 

@@ -1,5 +1,5 @@
 -- `replay` meets its contract, refusal by refusal. Assumes nothing.
-use Rattle.std.proofs.Common.{refl, rules}
+use Rattle.std.proofs.Common.{refl}
 use borrow.Author.Rules.{part_to_end}
 use Rattle.math.proofs.Choice.{fails, passes}
 use Rattle.reader.proofs.Refusals.{broken, unmarked, unknown, reads-log, head-whole}

@@ -1,5 +1,5 @@
 -- `replay_on` meets its contract, refusal by refusal. Assumes nothing.
-use Rattle.std.proofs.Common.{refl, rules}
+use Rattle.std.proofs.Common.{refl}
 use Rattle.reader.proofs.Refusals.{ragged, short, reads}
 use Rattle.reader.proofs.read.replay_on.Goals as goal
 

@@ -1,5 +1,4 @@
 -- `stopped` meets its contract, by what `answer` ensures. Assumes nothing.
-use Rattle.std.proofs.Common.{rules}
 use Rattle.reader.proofs.read.stopped.Goals as goal
 
 pub returns : goal.returns

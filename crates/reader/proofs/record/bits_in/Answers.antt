@@ -1,5 +1,5 @@
 -- `bits_in` meets its contract: four bytes, read one by one. Assumes nothing.
-use Rattle.std.proofs.Common.{◌∙◌, rules}
+use Rattle.std.proofs.Common.{◌∙◌}
 use Rattle.math.proofs.Bytes.{low_reads}
 use Rattle.reader.proofs.record.bits_in.Goals as goal
 

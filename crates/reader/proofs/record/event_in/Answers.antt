@@ -1,5 +1,5 @@
 -- `event_in` meets its contract: each arm is told its kind. Assumes nothing.
-use Rattle.std.proofs.Common.{rules, ne_eqb}
+use Rattle.std.proofs.Common.{ne_eqb}
 use Rattle.reader.specs.Records.{event_in}
 use Rattle.reader.proofs.Wrongs.{right-step}
 use Rattle.reader.proofs.record.event_in.Goals as goal

@@ -1,5 +1,5 @@
 -- `is_wrong` meets its contract, test by test. Assumes nothing.
-use Rattle.std.proofs.Common.{ℕ, not, eqb, leb, ap, ◌∙◌, rules}
+use Rattle.std.proofs.Common.{ℕ, not, eqb, leb, ap, ◌∙◌}
 use Rattle.reader.proofs.Wrongs.{wrong-kind, step-bits, other-bits}
 use Rattle.reader.proofs.record.is_wrong.Goals as goal
 

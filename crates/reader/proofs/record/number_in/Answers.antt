@@ -1,5 +1,5 @@
 -- `number_in` meets its contract: two bytes, read one by one. Assumes nothing.
-use Rattle.std.proofs.Common.{◌∙◌, rules}
+use Rattle.std.proofs.Common.{◌∙◌}
 use Rattle.math.proofs.Bytes.{low_reads}
 use Rattle.reader.proofs.record.number_in.Goals as goal
 

@@ -1,5 +1,5 @@
 -- `step_in` meets its contract: a pattern below infinity's is none of NaN's. Assumes nothing.
-use Rattle.std.proofs.Common.{rules, le-ltb, lt-ltb}
+use Rattle.std.proofs.Common.{le-ltb, lt-ltb}
 use Rattle.reader.proofs.Patterns.{no_nan}
 use Rattle.reader.proofs.record.step_in.Goals as goal
 

@@ -1,5 +1,5 @@
 -- `skim` meets its contract, by what its callees ensure. Assumes nothing.
-use Rattle.std.proofs.Common.{sym, ◌∙◌, rules}
+use Rattle.std.proofs.Common.{sym, ◌∙◌}
 use borrow.Author.Tests.{not-false}
 use Rattle.reader.proofs.Skimming.{skims}
 use mathlib.Core.Path.{ap}

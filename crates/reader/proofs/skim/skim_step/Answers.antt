@@ -1,5 +1,5 @@
 -- `skim_step` meets its contract, by what `glide` ensures. Assumes nothing.
-use Rattle.std.proofs.Common.{subst, rules}
+use Rattle.std.proofs.Common.{subst}
 use Rattle.tween.specs.Inner.{Glides}
 use Rattle.reader.proofs.Skimming.{skims-step}
 use Rattle.reader.proofs.skim.skim_step.Goals as goal

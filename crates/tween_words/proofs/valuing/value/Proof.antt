@@ -8,7 +8,7 @@ use Rattle.words.specs.Lent.{easing_at}
 use Rattle.easing_words.proofs.Applied.{plain-applies, bezier-applies}
 use Rattle.tween_words.proofs.Exact.{low, sized}
 use Rattle.tween_words.proofs.Fits.{parts}
-use Rattle.tween_words.proofs.Valued.{valued, valued-end}
+use Rattle.tween_words.proofs.ValueLaws.{valued, valued-end}
 use borrow.Author.Rules.{rules}
 use Rattle.tween_words.proofs.valuing.value.Statement.{statement}
 use Rattle.tween_words.proofs.valuing.value.Tie as tie
