@@ -5,4 +5,6 @@ pub mod Circ
 pub mod Back
 pub mod Bounce
 pub mod Stairs
+pub mod Jumps
+pub mod Rising
 pub mod Slow

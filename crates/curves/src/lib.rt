@@ -5,6 +5,7 @@
 mod back;
 mod bounce;
 mod circ;
+mod jumps;
 mod powers;
 mod root;
 mod slow;
@@ -13,6 +14,7 @@ mod stairs;
 pub use back::{ease_in_back, ease_in_out_back, ease_out_back};
 pub use bounce::{custom_bounce, ease_in_bounce, ease_in_out_bounce, ease_out_bounce};
 pub use circ::{ease_in_circ, ease_in_out_circ, ease_out_circ};
+pub use jumps::{Position, jump};
 pub use powers::{
     ease_in_cubic, ease_in_out_cubic, ease_in_out_quad, ease_in_out_quart, ease_in_out_quint,
     ease_in_quad, ease_in_quart, ease_in_quint, ease_out_cubic, ease_out_quad, ease_out_quart,

@@ -1,5 +1,4 @@
 -- `ease_in_out_bounce` meets its contract: each return is what the definition picks at the tests that led there. Assumes nothing.
-use Rattle.std.proofs.Common.{rules}
 use Rattle.curves.proofs.bounce.ease_in_out_bounce.Goals as goal
 
 pub returns-then-t : goal.returns-then-t

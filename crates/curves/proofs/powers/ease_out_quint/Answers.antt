@@ -1,5 +1,4 @@
 -- `ease_out_quint` meets its contract, by what `fifth` ensures. Assumes nothing.
-use Rattle.std.proofs.Common.{rules}
 use Rattle.curves.proofs.powers.ease_out_quint.Goals as goal
 
 pub returns : goal.returns

@@ -1,5 +1,5 @@
 -- `nearest_root` meets its contract, from any guess whose square fits: the first loop goes down to a q with q * q - q < n, the second up to the last such q. Assumes nothing.
-use Rattle.std.proofs.Common.{◌≡◌, ℕ, zero, suc, ◌+◌, ◌-◌, ◌*◌, ◌<◌, ◌≤◌, mul-le-mul, lt_of_not-le, arith, rules}
+use Rattle.std.proofs.Common.{◌≡◌, ℕ, zero, suc, ◌+◌, ◌-◌, ◌*◌, ◌<◌, ◌≤◌, mul-le-mul, lt_of_not-le, arith}
 use mathlib.Core.Path.{subst⁻¹}
 use Rattle.curves.proofs.root.nearest_root.Goals as goal
 use Rattle.curves.proofs.root.nearest_root.Goals.{In-loop-q}

@@ -1,5 +1,5 @@
 -- `scaled_root` meets its contract: n, doubled or not, has 47 or 48 binary digits, so its root has the 24 that a float is written with. Assumes nothing.
-use Rattle.std.proofs.Common.{ℕ, ◌+◌, ◌*◌, ◌/◌, ◌%◌, ◌^◌, ◌<◌, ◌≤◌, false, arith, rules}
+use Rattle.std.proofs.Common.{ℕ, ◌+◌, ◌*◌, ◌/◌, ◌%◌, ◌^◌, ◌<◌, ◌≤◌, false, arith}
 use mathlib.Core.Path.{subst⁻¹}
 use lib.Ieee.Exact.{HasValue}
 use Rattle.curves.specs.Root.{Root}

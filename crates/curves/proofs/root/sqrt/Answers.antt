@@ -1,5 +1,5 @@
 -- `sqrt` meets its contract: what it returns is a square root of x, and there is only one. That x has a pattern rests on its being a value of binary32. Assumes nothing.
-use Rattle.std.proofs.Common.{◌≡◌, ℕ, suc, ◌-◌, ◌/◌, ◌%◌, Bool, not, T, sym, refl, ◌∙◌, subst, true≢false, arith, rules}
+use Rattle.std.proofs.Common.{◌≡◌, ℕ, suc, ◌-◌, ◌/◌, ◌%◌, Bool, not, T, sym, refl, ◌∙◌, subst, true≢false, arith}
 use denote.Floats.{passes}
 use mathlib.Core.Path.{subst⁻¹}
 use mathlib.Core.Bool.{false≢true}

@@ -1,5 +1,4 @@
 -- `slow_at` meets its contract: each return is what the definition picks at the tests that led there. Assumes nothing.
-use Rattle.std.proofs.Common.{rules}
 use Rattle.curves.proofs.slow.slow_at.Goals as goal
 
 pub returns-then-lr : goal.returns-then-lr

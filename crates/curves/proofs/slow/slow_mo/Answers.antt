@@ -1,5 +1,4 @@
 -- `slow_mo` meets its contract: each return is what the definition picks at the tests that led there. Assumes nothing.
-use Rattle.std.proofs.Common.{rules}
 use Rattle.curves.proofs.slow.slow_mo.Goals as goal
 
 pub returns-then-t : goal.returns-then-t

@@ -1,5 +1,4 @@
 -- `steps` meets its contract, by what the helpers ensure. Assumes nothing.
-use Rattle.std.proofs.Common.{rules}
 use Rattle.curves.proofs.stairs.steps.Goals as goal
 
 pub returns-then-t : goal.returns-then-t
