@@ -22,7 +22,7 @@ pub fn write_head(buffer: &mut [u8]) -> Logged
         return Logged::Refused(Refusal::NoRoom);
     }
     let head = [b'P', b'E', b'L', 1, 0];
-    bytes::copy(&head, buffer);
+    buffer[..5].copy_from_slice(&head);
     Logged::Written(5)
 }
 
@@ -67,6 +67,6 @@ pub fn write_record(buffer: &mut [u8], written: usize, event: Event) -> Logged
         return Logged::Refused(Refusal::NoRoom);
     }
     let next = record(number_behind(&buffer[..written]), event);
-    bytes::copy(&next, &mut buffer[written..]);
+    buffer[written..written + 8].copy_from_slice(&next);
     Logged::Written(written + 8)
 }
