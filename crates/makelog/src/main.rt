@@ -11,7 +11,8 @@
 //     drop N        the numbers of N records are counted, and the records are not written
 //     repeat N      the record before is written N times more
 //
-// The whole script is read before LOG is opened. The last line is `end ok`, `end refused N` or
+// The whole script is read before LOG is opened. Where LOG is a pipe that nobody reads any more, nothing is
+// said of it. The last line is `end ok`, `end refused N` or
 // `end unreadable`.
 #![tactic(auto)]
 
@@ -74,8 +75,10 @@ fn written(rt: &HostRuntime, text: &[u8]) {
     let out = sink::write_log(&mut file, text);
     drop(file);
     if out.failed {
-        tools::say_argument(rt, STDERR_FILENO, 2);
-        say(STDERR_FILENO, b": the log can't be written\n");
+        if !out.unread {
+            tools::say_argument(rt, STDERR_FILENO, 2);
+            say(STDERR_FILENO, b": the log can't be written\n");
+        }
         tools::end_unreadable();
         return;
     }

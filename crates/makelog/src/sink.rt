@@ -2,16 +2,17 @@
 use crate::order::{Order, order_at};
 use event_log::{Event, Logged};
 use std::fs::File;
-use std::io::Write;
+use std::io::{ErrorKind, Write};
 
 // The buffer begins with the head. written bytes of it are the log that the writer sees, and those before
-// fresh are in the file already. records went out or will.
+// fresh are in the file already. records went out or will. unread: it failed as a pipe that nobody reads.
 #[derive(Clone, Copy)]
 pub struct Sink {
     pub written: usize,
     pub fresh: usize,
     pub records: u64,
     pub failed: bool,
+    pub unread: bool,
 }
 
 fn failed(s: Sink) -> Sink {
@@ -37,21 +38,28 @@ fn keep_last(buffer: &mut [u8; 65536], written: usize) -> usize {
     13
 }
 
-fn write_part(file: &mut File, bytes: &[u8], from: usize, to: usize) -> bool {
+// Some of the buffer goes out.
+fn write_part(file: &mut File, bytes: &[u8], s: Sink, from: usize, to: usize) -> Sink {
     if to > bytes.len() {
-        return false;
+        return failed(s);
     }
     if from > to {
-        return false;
+        return failed(s);
     }
-    file.write_all(&bytes[from..to]).is_ok()
+    match file.write_all(&bytes[from..to]) {
+        Ok(()) => s,
+        Err(error) => {
+            let mut t = failed(s);
+            t.unread = error.kind() == ErrorKind::BrokenPipe;
+            t
+        }
+    }
 }
 
 // What is fresh goes out.
 fn flushed(file: &mut File, buffer: &mut [u8; 65536], s: Sink) -> Sink {
-    let mut t = s;
-    if !write_part(file, buffer, s.fresh, s.written) {
-        t.failed = true;
+    let mut t = write_part(file, buffer, s, s.fresh, s.written);
+    if t.failed {
         return t;
     }
     let kept = keep_last(buffer, s.written);
@@ -80,7 +88,13 @@ fn with_room(file: &mut File, buffer: &mut [u8; 65536], s: Sink) -> Sink {
     flushed(file, buffer, s)
 }
 
-fn write_times(file: &mut File, buffer: &mut [u8; 65536], first: Sink, event: Event, times: u32) -> Sink {
+fn write_times(
+    file: &mut File,
+    buffer: &mut [u8; 65536],
+    first: Sink,
+    event: Event,
+    times: u32,
+) -> Sink {
     let mut s = first;
     let mut i: u32 = 0;
     while i < times {
@@ -115,8 +129,9 @@ fn repeat_times(file: &mut File, buffer: &mut [u8; 65536], first: Sink, times: u
     let mut s = flushed(file, buffer, first);
     let mut i: u32 = 0;
     while i < times {
-        if !write_part(file, buffer, 5, 13) {
-            return failed(s);
+        s = write_part(file, buffer, s, 5, 13);
+        if s.failed {
+            return s;
         }
         s.records = std::num::wrapping_add_u64(s.records, 1);
         i += 1;
@@ -141,6 +156,7 @@ fn begun(buffer: &mut [u8; 65536]) -> Sink {
         fresh: 0,
         records: 0,
         failed: false,
+        unread: false,
     }
 }
 

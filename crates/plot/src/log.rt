@@ -27,7 +27,13 @@ fn over_records(bytes: &[u8], first: Course, frame: Frame, table: &mut Table) ->
 }
 
 // Over the next chunk of a file.
-fn over_chunk(rt: &HostRuntime, file: &mut File, c: Course, frame: Frame, table: &mut Table) -> Course {
+fn over_chunk(
+    rt: &HostRuntime,
+    file: &mut File,
+    c: Course,
+    frame: Frame,
+    table: &mut Table,
+) -> Course {
     let mut buffer = io::large_buffer();
     let filled = tools::fill_from(rt, file, 2, &mut buffer);
     if filled.failed {
@@ -40,7 +46,14 @@ fn over_chunk(rt: &HostRuntime, file: &mut File, c: Course, frame: Frame, table:
 }
 
 // Over so many chunks.
-fn over_chunks(rt: &HostRuntime, file: &mut File, chunks: u64, first: Course, frame: Frame, table: &mut Table) -> Course {
+fn over_chunks(
+    rt: &HostRuntime,
+    file: &mut File,
+    chunks: u64,
+    first: Course,
+    frame: Frame,
+    table: &mut Table,
+) -> Course {
     let mut c = first;
     note(table, frame, c);
     let mut left = chunks;

@@ -16,7 +16,8 @@ pub use calls::{has_argument, has_words};
 pub use ends::{end_refused, end_unreadable};
 pub use explain::{say_fault, say_refusal};
 pub use files::{
-    Filled, Length, fill, fill_from, length_of, open_argument, open_overwrite, open_read, read_text, say_argument, say_failed,
+    Filled, Length, fill, fill_from, length_of, open_argument, open_overwrite, open_read,
+    read_text, say_argument, say_failed,
 };
 pub use heads::{Head, read_head};
 pub use ramps::{RampRead, read_ramp, say_easing, say_mode, say_ramp};
