@@ -1,5 +1,5 @@
 -- What is not above a float: where that is a whole number n, what is at most n in size; where the format holds it, its product with a t from 0 to 1. Assumes nothing.
-use Rattle.std.proofs.Common.{◌≡◌, ℕ, ◌-◌, ◌*◌, ◌<◌, ◌≤◌, Bool, true, false, T, pos, refl, ◌∙◌, true≢false, le_refl, mul-le-mul_right, mul_comm, mul-pos, arith, le→leb}
+use Rattle.std.proofs.Common.{◌≡◌, ℕ, ◌*◌, ◌<◌, ◌≤◌, Bool, true, false, T, pos, refl, ◌∙◌, true≢false, le_refl, mul-le-mul_right, mul_comm, mul-pos, arith, le→leb}
 use mathlib.Core.Path.{subst⁻¹}
 use lib.Ieee.{Float, nan, inf, fin, binary32, up, down, unlike, round, mul, lt, le, eq, fits, of_bits}
 use lib.Ieee.Fits.{down_pos}

@@ -14,7 +14,6 @@ use Rattle.math.proofs.Bounded.{one-within, blend-most}
 use Rattle.math.proofs.Ranges.{clamped}
 use Rattle.bezier.specs.declared.types.Found.{Found}
 use Rattle.bezier.specs.Bezier.{plain_of, with_value}
-use Rattle.units.specs.declared.InProgress.TheVariants as progress
 use Rattle.easing.specs.declared.answers.Eased.{Eased}
 use Rattle.easing.specs.declared.answers.Eased.TheVariants.{Value}
 use Rattle.easing.specs.Apply.{apply_of}

@@ -1,0 +1,8 @@
+-- `sample_cubic` meets its contract: it is the definition, step by step. Assumes nothing.
+use mathlib.Core.Path.{refl}
+use Rattle.bezier.specs.Curve.{sample_cubic_of}
+use Rattle.bezier.proofs.curve.sample_cubic.Goals as goal
+
+pub returns : goal.returns
+unfolding sample_cubic_of
+returns c = refl

@@ -1,0 +1,56 @@
+-- `fill` meets its contract. The invariant: the first i places of out hold the samples at their times, and what did not settle among them and among those that are left makes the whole count. The measure is the times that are left. Assumes nothing.
+use Prim.Native.Nat.{◌<◌, ◌+◌}
+use mathlib.Core.Path.{◌≡◌, refl}
+use native.Mathlib.Omega.{arith}
+use borrow.Author.Rules.{rules}
+use mir.Syntax.{w64}
+use mir.Val.{Fits}
+use lib.ListN.{length, take, get_or, length-set}
+use lib.Seq.{take-length}
+use lib.Ieee.{nan}
+use Rattle.math.proofs.Tallies.{byte-below}
+use Rattle.frames.specs.Sampling.{sample_of, filled_of, unsettled_of}
+use Rattle.frames.proofs.Picks.{picked-by}
+use Rattle.frames.proofs.Walks.{array_long}
+use Rattle.frames.proofs.Fills.{fill_none, fill_more, fill-all}
+use Rattle.frames.proofs.Counts.{byte_fits, count_next, count_past}
+use Rattle.frames.proofs.filling.fill.Invariants.{at, off}
+use Rattle.frames.proofs.filling.fill.Goals as goal
+use Rattle.frames.proofs.filling.fill.Goals.{After-pick-found}
+
+-- what `pick` answers is the sample
+sampled : (c : After-pick-found)
+    → c.pick-found.result ≡ sample_of (take c.args.n c.args.frames) (get_or c.args.times.now c.loop-i.i nan)
+sampled c =
+    let t = c.args.frames in let l : length t ≡ 64 = array_long t _ c.well_formed.0 in
+    picked-by t c.args.n (omega arith) (omega arith) c.requires.0 _ _ _ _ _ _
+    c.max_zero.ensures
+    c.cut-t.ensures
+    c.times_of-starts.ensures
+    c.interval-low.ensures.1
+    c.pick-found.ensures
+
+pub loop-i-init : goal.loop-i-init
+unfolding filled_of unsettled_of
+loop-i-init c = (search rules, refl, fill_none (at c.args.frames c.args.n) nan c.args.times.now c.args.out.now c.requires.3, search rules, rw take-length (omega arith))
+
+pub overflow_add-unsettled : goal.overflow_add-unsettled
+unfolding filled_of unsettled_of
+overflow_add-unsettled c = let h : Fits w64 (c.loop-i.i + 1) = omega arith in search (rules, byte_fits)
+
+pub loop-i-preserved : goal.loop-i-preserved
+unfolding filled_of unsettled_of
+loop-i-preserved c = let h : c.loop-i.i < length c.args.times.now = omega arith in
+    let e = sampled (goal.at.loop-i-preserved c).After-pick-found in
+    let q = count_next (off c.args.frames c.args.n) c.args.times.now (length c.args.times.now) c.loop-i.i h (λ k. absurd (omega (arith, k))) in
+    (omega arith, simp length-set c.loop-i.invariant.1, rw (e, c.loop-i.invariant.2) (fill_more (at c.args.frames c.args.n) nan c.args.times.now c.args.out.now c.requires.3 c.loop-i.i h), search (rules, byte-below), rw e (omega (arith, q)))
+
+pub shape_of-out : goal.shape_of-out
+unfolding filled_of unsettled_of
+shape_of-out c = c.loop-i.invariant.1
+
+pub returns : goal.returns
+unfolding filled_of unsettled_of
+returns c = let e : c.loop-i.i ≡ length c.args.times.now = omega arith in
+    let q = count_past (off c.args.frames c.args.n) c.args.times.now (length c.args.times.now) c.loop-i.i (omega arith) in
+    record { output = rw (c.loop-i.invariant.2, e) (fill-all (at c.args.frames c.args.n) nan c.args.times.now c.args.out.now c.requires.3); count = omega (arith, q) }

@@ -1,0 +1,15 @@
+-- `reverse` meets its contract, by what its callees ensure. Assumes nothing.
+use Rattle.math.proofs.Choice.{fails, passes}
+use Rattle.tween.specs.Calls.{reverse_of}
+use lib.Ieee.{of_bits}
+use mathlib.Core.Path.{ap}
+use mathlib.Core.Bool.{not}
+use Rattle.tween.proofs.record.Tween.reverse.Goals as goal
+
+pub returns-then-not-within : goal.returns-then-not-within
+unfolding reverse_of of_bits
+returns-then-not-within c = simp (fails _ _ c.within.ensures (ap not c.if-not-within.true))
+
+pub returns : goal.returns
+unfolding reverse_of of_bits
+returns c = simp (passes _ _ c.within.ensures (ap not c.if-not-within.false), c.moved_to.ensures, c.woken_state.ensures, c.clamp-e.ensures)
