@@ -1,19 +1,12 @@
 -- Bytes put behind the first w of a buffer. Assumes nothing.
-use Rattle.std.proofs.Common.{◌≡◌, ℕ, ◌+◌, ◌-◌, ◌<◌, ◌≤◌, List, ◌++◌, length, get_or, take, drop, refl, ap, ◌∙◌, ⊎_elim, append_assoc, append-nil, arith, length-append, length-drop, drop_of_length-le, length-take-le, get_or-drop, take_all, get_or-take, drop-drop, get_or-append-add}
+use Rattle.std.proofs.Common.{◌≡◌, ℕ, ◌+◌, ◌-◌, ◌<◌, ◌≤◌, List, ◌++◌, length, get_or, take, drop, refl, sym, ap, ◌∙◌, ⊎_elim, append_assoc, arith, length-append, length-drop, length-take-le, get_or-drop, get_or-take, drop-drop, get_or-append-add}
 use lib.ListN.{get_or-append}
-use borrow.Rule.Slice.PartMut.{mid_of, put_mid}
+use borrow.Rule.Slice.PartMut.{put_mid}
 use Rattle.event_log.specs.Writing.{Keeps}
 
-module _ (l : List ℕ) (w : ℕ) where
-  -- the lent part is all that lies behind
-  mid-is : mid_of w (length l - w) l ≡ drop w l
-  mid-is = take_all (length l - w) (drop w l) (omega (arith, length-drop w l))
-
-  -- a part is lent from w on, and the front of it is written
-  pub pasted : (r new last : List ℕ) → w ≤ length l → r ≡ new → last ≡ take (length r) r ++ drop (length r) (mid_of w (length l - w) l)
-      → put_mid w (length l - w) l last ≡ take w l ++ new ++ drop (w + length new) l
-  pasted r new last h e p =
-      rw (p, e, mid-is, take_all (length new) new (omega arith), drop-drop (length new) w l, drop_of_length-le (drop w l) {i = length l - w} (omega (arith, length-drop w l)), append-nil, append_assoc) refl
+-- a part is lent from w on, of m bytes, and all of it is written
+pub pasted : (l : List ℕ) (w n m : ℕ) (r new : List ℕ) → n ≡ m → r ≡ new → put_mid w n l r ≡ take w l ++ new ++ drop (w + m) l
+pasted l w n m r new e f = rw (e, f, drop-drop m w l) (sym (append_assoc (take w l) new (drop (w + m) l)))
 
 module _ (l : List ℕ) (w : ℕ) (new : List ℕ) (h : w + length new ≤ length l) where
   front_long : length (take w l ++ new) ≡ w + length new

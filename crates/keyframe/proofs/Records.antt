@@ -1,7 +1,6 @@
 -- The limits of a track, test by test. Assumes nothing.
-use Rattle.std.proofs.Common.{◌≡◌, ℕ, ◌+◌, ◌-◌, ◌<◌, ◌≤◌, Bool, true, false, ◌&&◌, leb, List, length, get_or, take, drop, sym, ◌∙◌, arith, length-take-le, get_or-take, ne_eqb, le-leb, leb-true}
+use Rattle.std.proofs.Common.{◌≡◌, ℕ, ◌+◌, ◌-◌, ◌<◌, ◌≤◌, Bool, true, false, ◌&&◌, leb, List, length, get_or, take, drop, sym, arith, length-take-le, get_or-take, ne_eqb, le-leb, leb-true}
 use mathlib.Core.Bool.{and-true}
-use lib.ListN.{length-map}
 use lib.Ieee.{Float, lt, le}
 use borrow.Author.Tests.{lt-leb}
 use mir.Val.{Val}
@@ -25,7 +24,7 @@ use Rattle.keyframe.specs.Limits.{frames_in, base_of, end_of, mode_fits, clock_f
 
 -- a track's array has 64 places
 pub frames-long : (t : Track) (vs : List Val) → Is (row the_type) t vs → length t.frames ≡ 64
-frames-long t vs h = sym (length-map t.frames _) ∙ (owed the_type the_laws t vs h).0.1.0.1
+frames-long t vs h = (owed the_type the_laws t vs h).0.1.0.1
 
 -- the modes
 module _ (m : Loop) (base : Float) where

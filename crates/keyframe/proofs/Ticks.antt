@@ -1,17 +1,15 @@
 -- What the clock's steps make of a track is what the track's own definitions have. Assumes nothing.
-use Rattle.std.proofs.Common.{◌≡◌, ℕ, true, refl}
+use Rattle.std.proofs.Common.{◌≡◌, true, refl}
 use lib.Ieee.{Float, lt, le, eq}
 use Rattle.math.specs.Rounded.{◌⊕◌, zero_f, top_f}
 use Rattle.math.specs.Range.{max_zero_of}
 use Rattle.math.proofs.Choice.{of-picked}
-use Rattle.refusal.specs.declared.Refusal.TheVariants.{StepTooLong, StepLost, ElapsedTooLong}
 use Rattle.keyframe.specs.declared.types.Track.{Track}
 use Rattle.keyframe.specs.declared.types.End.{End}
 use Rattle.keyframe.specs.declared.types.End.TheVariants.{At, Never}
-use Rattle.keyframe.specs.declared.types.Ticked.TheVariants.{Ran, Refused}
 use Rattle.keyframe.specs.Limits.{base_of, end_of, within_of}
 use Rattle.keyframe.specs.Playback.{active_of, done_of, playback_progress}
-use Rattle.keyframe.specs.Stepping.{advance_of, halted, lost_of, ran, sought_of, span_in, update_of}
+use Rattle.keyframe.specs.Stepping.{advance_of, lost_of, sought_of, span_in, update_of}
 use Rattle.keyframe.specs.Clock.{active_at, clock_in, progress_at, seek_of, tick_of, tick_to, ticked_in, with_clock}
 
 module _ (t : Track) where

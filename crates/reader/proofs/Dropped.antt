@@ -11,7 +11,6 @@ use Rattle.event_log.specs.Writing.{may_be_logged}
 use Rattle.reader.specs.declared.gaps.Last.{Last}
 use Rattle.reader.specs.declared.gaps.Last.TheVariants.{Unread, Number}
 use Rattle.reader.specs.declared.hear.Replay.{Replay}
-use Rattle.reader.specs.declared.hear.Played.TheVariants.{Refused}
 use Rattle.reader.specs.Hearing.{capped, gap_of}
 use Rattle.reader.specs.Reading.{Reading, reading_of, joined_by}
 use Rattle.reader.specs.Promises.{is_f32}

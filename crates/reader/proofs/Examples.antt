@@ -1,5 +1,5 @@
 -- The request's own numbers, and a log with a repeat, computed from the definition. Assumes nothing.
-use Rattle.std.proofs.Common.{◌≡◌, ℕ, ◌+◌, ◌%◌, true, false, List, [], ◌∷◌, ◌++◌, refl, arith, lit<, lit≤}
+use Rattle.std.proofs.Common.{◌≡◌, ℕ, ◌+◌, ◌%◌, false, List, [], ◌∷◌, ◌++◌, refl, arith, lit<, lit≤}
 use lib.Ieee.{add, sub, mul, neg, sum, lt, le, eq, round, of_int, of_bits, to_bits}
 use Rattle.math.specs.Lists.{split}
 use Rattle.math.specs.Rounded.{zero_f, one_f}

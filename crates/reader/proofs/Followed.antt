@@ -1,5 +1,5 @@
 -- What the reader makes of records by our writer, one behind the other. Assumes nothing.
-use Rattle.std.proofs.Common.{◌≡◌, ℕ, zero, suc, ◌+◌, ◌-◌, ◌%◌, ◌<◌, ◌≤◌, Bool, true, false, cond, not, T, eqb, List, [], ◌∷◌, length, get_or, take, replicate, sym, refl, ap, ◌∙◌, mod-lt, arith, length-take, get_or-take, ne_eqb}
+use Rattle.std.proofs.Common.{◌≡◌, ℕ, zero, suc, ◌+◌, ◌%◌, ◌<◌, ◌≤◌, Bool, true, false, cond, not, T, eqb, List, [], ◌∷◌, length, get_or, take, replicate, sym, refl, ap, ◌∙◌, mod-lt, arith, length-take, get_or-take, ne_eqb}
 use mathlib.Core.Bool.{false≢true}
 use borrow.Author.Tests.{not-true}
 use lib.Ieee.Fits.{and_l, and_r}

@@ -2,11 +2,11 @@
 use Prim.Native.Nat.{ℕ, ◌+◌, ◌<◌, ◌≤◌}
 use native.Mathlib.Omega.{arith}
 use borrow.Author.Tests.{ltb-false}
-use mathlib.Core.Path.{◌≡◌, refl, sym, ◌∙◌}
+use mathlib.Core.Path.{◌≡◌, refl}
 use mathlib.Core.Bool.{true, ◌&&◌}
 use mathlib.Core.List.{List}
 use lib.Dec.{ltb}
-use lib.ListN.{length, length-map, take, drop, get_or}
+use lib.ListN.{length, take, drop, get_or}
 use lib.Ieee.{nan}
 use mir.Val.{Val}
 use denote.Laws.{Is}
@@ -27,7 +27,7 @@ all-places n h = by-test (λ (m : ℕ). m ≡ n) (ltb n 64) n 64 (λ _. refl) (�
 
 -- the array has 64 places
 pub words_long : (w : LaxTrack) (vs : List Val) → Is (row the_type) w vs → length w.frames ≡ 64
-words_long w vs h = sym (length-map w.frames _) ∙ (owed the_type the_laws w vs h).0.1.0.1
+words_long w vs h = (owed the_type the_laws w vs h).0.1.0.1
 
 -- what stands past the end of a list, for `get_or`
 abbrev pub no_words : LaxKeyframe

@@ -3,7 +3,7 @@ use Prim.Native.Nat.{◌≤◌}
 use native.Mathlib.Omega.{arith}
 use mathlib.Core.Path.{◌≡◌, refl, ◌∙◌}
 use mathlib.Core.Bool.{Bool, true, false, not}
-use mathlib.Core.List.{List, [], ◌∷◌, ◌++◌, map}
+use mathlib.Core.List.{List, [], ◌∷◌, map}
 use lib.Dec.{eqb}
 use lib.ListN.{length, length-map, take, drop}
 use lib.Seq.{length-take-le, take_at}
@@ -11,18 +11,13 @@ use Rattle.easing.specs.declared.kinds.Easing.{Easing}
 use Rattle.easing.proofs.Tags.{told}
 use Rattle.loop_mode.specs.declared.Loop.{Loop}
 use Rattle.loop_mode.specs.declared.Loop.TheVariants.{Once, Times, Forever, PingPong, PingPongTimes}
-use Rattle.tween.specs.declared.record.Tween.{Tween}
-use Rattle.tween.specs.declared.record.TweenState.{TweenState}
 use Rattle.tween.specs.declared.record.TweenState.TheVariants.{Idle, Running, Paused, Completed}
 use Rattle.frames.specs.declared.frame.Keyframe.{Keyframe}
 use Rattle.keyframe.specs.declared.types.Track.{Track}
-use Rattle.words.specs.declared.modes.LoopRead.TheVariants as mode
-use Rattle.words.specs.declared.modes.StateRead.TheVariants as state
 use Rattle.words.specs.declared.tracks.LaxKeyframe.{LaxKeyframe}
-use Rattle.words.specs.declared.tweens.TweenRead.TheVariants.{Known}
 use Rattle.words.specs.Kinds.{is_kind, easing_from, easing_words}
 use Rattle.words.specs.Modes.{is_mode, loop_from, loop_words, state_from, state_word, flag_word}
-use Rattle.words.specs.Tracks.{blanks, known_kinds, known_track, frame_from, frame_read, frames_from, track_from, frame_words, frames_words, track_words}
+use Rattle.words.specs.Tracks.{known_kinds, known_track, frame_from, frame_read, frames_from, track_from, frame_words, frames_words, track_words}
 use Rattle.words.specs.Tweens.{tween_from, tween_words}
 use Rattle.words.specs.Promises.{EasingBack, LoopBack, StateBack, FrameBack, TweenBack, TrackKnown, TrackBack}
 use Rattle.words.proofs.Known.{all-places}

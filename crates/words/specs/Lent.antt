@@ -1,5 +1,5 @@
 -- Records as lists of words, each in the order of its fields: how C's structs lie in memory. A float is a word by its bits.
-use Rattle.std.specs.Prelude.{ℕ, ◌+◌, ◌*◌, List, [], ◌∷◌, ◌++◌, get_or, set, Float}
+use Rattle.std.specs.Prelude.{ℕ, ◌+◌, ◌*◌, List, get_or, set, Float}
 use Rattle.math.specs.Bits.{bits_of}
 use Rattle.math.specs.Lists.{firsts}
 use Rattle.math.specs.Rounded.{f32}

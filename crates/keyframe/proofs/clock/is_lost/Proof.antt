@@ -1,9 +1,0 @@
--- `is_lost` meets its contract. Assumes nothing.
-use Rattle.std.proofs.Common.{rules}
-use lib.Ieee.{of_bits}
-use Rattle.keyframe.proofs.clock.is_lost.Statement.{statement}
-use Rattle.keyframe.proofs.clock.is_lost.Tie as tie
-
-pub is-lost-spec : {M : Type 1} → statement M
-unfolding of_bits
-is-lost-spec = tie.close (tie.spec (λ c κs. search rules) (λ c. rw c.is_lost.ensures))

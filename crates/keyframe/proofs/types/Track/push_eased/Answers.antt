@@ -1,0 +1,5 @@
+-- `push_eased` meets its contract, by what its callees ensure. Assumes nothing.
+use Rattle.keyframe.proofs.types.Track.push_eased.Goals as goal
+
+pub returns : goal.returns
+returns c = rw (c.push_frame.ensures, c.new.ensures)

@@ -1,0 +1,31 @@
+-- `value_at` meets its contract, by its outcome. Assumes nothing.
+use Rattle.std.proofs.Common.{◌≡◌, true, sym, ◌∙◌}
+use Rattle.math.proofs.Choice.{fails, passes}
+use Rattle.keyframe.specs.Limits.{within_of}
+use Rattle.keyframe.specs.Sampling.{value_at_of}
+use Rattle.keyframe.proofs.Records.{few-frames, frames-fine}
+use Rattle.keyframe.proofs.Refusals.{sample-by, sample-some}
+use mathlib.Core.Path.{ap}
+use mathlib.Core.Bool.{not}
+use Rattle.keyframe.proofs.types.Track.value_at.Goals as goal
+use Rattle.keyframe.proofs.types.Track.value_at.Goals.{Else-not-is_within_limits}
+
+within : (c : Else-not-is_within_limits) → within_of c.args.self ≡ true
+within c = passes _ _ c.is_within_limits.ensures (ap not c.if-not-is_within_limits.false)
+
+pub returns-then-not-is_within_limits : goal.returns-then-not-is_within_limits
+unfolding value_at_of
+returns-then-not-is_within_limits c = rw (fails _ _ c.is_within_limits.ensures (ap not c.if-not-is_within_limits.true))
+
+pub returns-in-Refused : goal.returns-in-Refused
+unfolding value_at_of
+returns-in-Refused c = sample-by c.args.self (within (goal.at.returns-in-Refused c).Else-not-is_within_limits) c.args.secs.0 _ (sym c.in-Refused.is ∙ c.sample_outcome.ensures)
+
+pub sample-requires : goal.sample-requires
+unfolding value_at_of
+sample-requires c = let w = within (goal.at.sample-requires c).Else-not-is_within_limits in
+    (frames-fine _ w, sample-some _ (sym c.in_default.is ∙ c.sample_outcome.ensures), few-frames _ w)
+
+pub returns : goal.returns
+unfolding value_at_of
+returns c = rw c.sample.ensures (sample-by c.args.self (within (goal.at.returns c).Else-not-is_within_limits) c.args.secs.0 _ (sym c.in_default.is ∙ c.sample_outcome.ensures))

@@ -1,0 +1,19 @@
+-- `hear` meets its contract, by what its callees ensure. Assumes nothing.
+use Rattle.std.proofs.Common.{sym, ◌∙◌}
+use Rattle.reader.proofs.Heard.{hears-wrong, hears-repeat, hears-played}
+use Rattle.reader.proofs.hear.hear.Goals as goal
+
+pub returns-then-is_wrong : goal.returns-then-is_wrong
+returns-then-is_wrong c = sym (hears-wrong _ _ (sym c.is_wrong.ensures ∙ c.if-is_wrong.true))
+
+pub returns-then-gap : goal.returns-then-gap
+returns-then-gap c = sym (hears-repeat _ _ (sym c.is_wrong.ensures ∙ c.if-is_wrong.false) _ _ c.number_in-number.ensures c.gap_before-gap.ensures c.if-gap.true)
+
+pub event_in-requires : goal.event_in-requires
+event_in-requires c = sym c.is_wrong.ensures ∙ c.if-is_wrong.false
+
+pub returns-in-Done : goal.returns-in-Done
+returns-in-Done c = rw (c.capped_add.ensures, c.capped_add-in-Done.ensures) (sym (hears-played _ _ (sym c.is_wrong.ensures ∙ c.if-is_wrong.false) _ _ c.number_in-number.ensures c.gap_before-gap.ensures c.if-gap.false _ _ c.event_in.ensures (sym c.in-Done.is ∙ c.play.ensures)))
+
+pub returns-in-Refused : goal.returns-in-Refused
+returns-in-Refused c = sym (hears-played _ _ (sym c.is_wrong.ensures ∙ c.if-is_wrong.false) _ _ c.number_in-number.ensures c.gap_before-gap.ensures c.if-gap.false _ _ c.event_in.ensures (sym c.in-Refused.is ∙ c.play.ensures))
