@@ -1,21 +1,18 @@
 -- Kinds that have a curve and no parameters: what a number that is none of theirs says, and that their parameters are not looked at. Assumes nothing.
 use Prim.Native.Nat.{ℕ}
-use native.Mathlib.Omega.{arith}
-use mathlib.Core.Path.{◌≡◌, refl, sym, subst, ◌∙◌}
-use mathlib.Core.Bool.{Bool, true, false, not, ◌&&◌, ◌||◌, false≢true}
+use mathlib.Core.Path.{◌≡◌, refl, sym, ◌∙◌}
+use mathlib.Core.Bool.{Bool, true, false, not, ◌||◌, false≢true}
 use mathlib.Core.List.{List, [], ◌∷◌}
 use lib.Dec.{eqb}
 use lib.ListN.{length}
 use lib.Ieee.{nan}
 use borrow.Author.Tests.{ltb-true, eqb-true, not-true}
 use Rattle.math.proofs.Choice.{and_both}
-use Rattle.easing.specs.declared.kinds.Easing.{Easing}
 use Rattle.easing.specs.declared.params.Params.{Params}
-use Rattle.easing.specs.Kinds.{number_of, all_named, supplied_of}
-use Rattle.easing.specs.Params.{no_params, params_of, with_params, of_number, within_of}
+use Rattle.easing.specs.Kinds.{number_of, all_named}
+use Rattle.easing.specs.Params.{no_params, params_of, with_params, of_number}
 use Rattle.easing.specs.Apply.{fits_record_of}
-use Rattle.easing.proofs.Tags.{among, seven, own, told, each_below}
-use Rattle.words.specs.declared.kinds.LaxEasing.{LaxEasing}
+use Rattle.easing.proofs.Tags.{among, seven, told, each_below}
 use Rattle.words.specs.Kinds.{words, is_kind, easing_from}
 use Rattle.words.specs.Tracks.{easing_in}
 use Rattle.words.specs.Sampling.{plain_kind, easing_fits}

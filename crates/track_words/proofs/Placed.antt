@@ -6,7 +6,7 @@ use native.Mathlib.Omega.{arith}
 use mathlib.Core.Path.{◌≡◌, refl, sym, ◌∙◌}
 use mathlib.Core.List.{List, [], ◌∷◌, ◌++◌, append_assoc, map}
 use mathlib.Core.Logic.{⊎_elim}
-use lib.ListN.{length, length-append, length-map, take, drop, get_or, set, get_or-append, get_or-map}
+use lib.ListN.{length, length-append, take, drop, get_or, set, get_or-append, get_or-map}
 use lib.Seq.{drop-cons, set_at, take_at, take-append-le, take_all, get_or_at}
 use lib.Ieee.{nan}
 use Rattle.math.specs.Lists.{firsts}

@@ -1,6 +1,6 @@
 -- The cases of a push into words that pass the check. Assumes nothing.
 use Prim.Native.Nat.{ℕ}
-use mathlib.Core.Path.{◌≡◌, refl, ap, ◌∙◌}
+use mathlib.Core.Path.{◌≡◌, refl, ◌∙◌}
 use mathlib.Core.Bool.{Bool, true, false, cond}
 use mathlib.Core.List.{List, ◌++◌}
 use lib.Dec.{leb}
@@ -9,13 +9,10 @@ use Rattle.refusal.specs.declared.Refusal.TheVariants.{TrackFull}
 use Rattle.easing.specs.Kinds.{supplied_of}
 use Rattle.easing.specs.Params as params
 use Rattle.frames.specs.declared.frame.Keyframe.{Keyframe}
-use Rattle.frames.specs.declared.frame.Put.{Put}
 use Rattle.frames.specs.Pushing.{pushed_of, put_of}
-use Rattle.keyframe.specs.declared.types.Changed.{Changed}
-use Rattle.keyframe.specs.declared.types.Outcome.{Outcome}
 use Rattle.keyframe.specs.declared.types.Outcome.TheVariants.{Done, Refused}
 use Rattle.keyframe.specs.declared.types.Track.{Track}
-use Rattle.keyframe.specs.Limits.{frames_in, within_of}
+use Rattle.keyframe.specs.Limits.{frames_in}
 use Rattle.keyframe.specs.Pushing.{placed_of, push_of, stored_of, takes_of}
 use Rattle.words.specs.Lent.{float_at}
 use Rattle.track_words.specs.Checking.{check_of}

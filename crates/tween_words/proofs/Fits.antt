@@ -1,12 +1,11 @@
 -- Words that pass the tests of their patterns are a tween within its limits. Assumes nothing.
-use Prim.Native.Nat.{ℕ, zero, suc, ◌%◌, ◌≤◌, ◌<◌}
+use Prim.Native.Nat.{ℕ, zero, suc, ◌%◌, ◌≤◌}
 use native.Mathlib.Omega.{arith}
 use mathlib.Core.Path.{◌≡◌, refl}
-use mathlib.Core.Bool.{Bool, true, false, not, ◌&&◌, ◌||◌}
+use mathlib.Core.Bool.{Bool, true, not, ◌&&◌, ◌||◌}
 use mathlib.Core.List.{List}
 use borrow.Author.Tests.{ltb-true, leb-true, le-leb}
 use lib.Dec.{leb, ltb, eqb}
-use lib.Ieee.{lt}
 use Rattle.math.specs.Rounded.{f32}
 use Rattle.math.proofs.Choice.{and_both}
 use Rattle.math.proofs.Ordered.{below, between, in_size}

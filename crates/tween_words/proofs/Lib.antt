@@ -2,4 +2,4 @@ mod Exact
 pub mod Fits
 mod Folding
 mod Moving
-mod Valued
+mod ValueLaws

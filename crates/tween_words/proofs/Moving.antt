@@ -1,11 +1,11 @@
 -- An update with one fold at most, by the words: what it answers, and which words it changes. Assumes nothing.
-use Prim.Native.Nat.{ℕ, zero, suc, ◌+◌, ◌%◌, ◌≤◌, ◌<◌}
+use Prim.Native.Nat.{ℕ, zero, suc, ◌%◌, ◌≤◌}
 use native.Mathlib.Omega.{arith}
 use mathlib.Core.Path.{◌≡◌, refl, sym, ap, ◌∙◌}
 use mathlib.Core.Bool.{Bool, true, false, not, cond, ◌&&◌, and-false}
 use mathlib.Core.List.{List}
-use lib.Dec.{T, eqb}
-use lib.Ieee.{Float, binary32, is_nan, lt, le, eq}
+use lib.Dec.{eqb}
+use lib.Ieee.{Float, binary32, lt, le, eq}
 use lib.Ieee.Bits.{to_bits-of_bits, nan_bits_is}
 use lib.ListN.{get_or, set}
 use lib.Seq.{set-get_or, get_or-set_other}

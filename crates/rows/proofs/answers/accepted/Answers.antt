@@ -1,0 +1,7 @@
+-- `accepted` meets its contract, by what its callees ensure. Assumes nothing.
+use Rattle.rows.specs.Words.{put_all}
+use Rattle.rows.proofs.answers.accepted.Goals as goal
+
+pub returns : goal.returns
+unfolding put_all
+returns c = simp (c.put.ensures, c.nothing.ensures)

@@ -1,0 +1,22 @@
+-- `eased` meets its contract, by what its callees ensure. Assumes nothing.
+use mathlib.Core.Path.{refl, sym, ◌∙◌}
+use Rattle.math.specs.Rounded.{zero_f}
+use Rattle.math.proofs.Order.{le-numbers}
+use Rattle.math.proofs.Ranges.{clamp-stays}
+use Rattle.words.specs.Lent.{easing_at}
+use Rattle.easing_words.proofs.Applied.{plain-applies, bezier-applies}
+use Rattle.track_words.proofs.sampling.eased.Goals as goal
+
+pub draw-requires : goal.draw-requires
+draw-requires c = c.requires.1
+
+pub returns-in-At : goal.returns-in-At
+returns-in-At c = let d = rw c.word_at-kind.ensures at (sym c.in-At.is ∙ c.draw.ensures) in
+    rw (c.plain.ensures, (plain-applies (easing_at c.args.w.now c.args.at) c.args.p _ _ d (sym (clamp-stays c.args.p c.requires.1)) (le-numbers zero_f c.args.p c.requires.1.0).1).1) refl
+
+pub returns-in-At-search : goal.returns-in-At-search
+returns-in-At-search c = let f = rw (c.word_at-kind.ensures, c.word_at-a.ensures, c.word_at-b.ensures, c.word_at-c.ensures, c.word_at-d.ensures) at (sym c.in-At-search.is ∙ c.search.ensures) in
+    rw (bezier-applies (easing_at c.args.w.now c.args.at) c.args.p _ _ f (sym (clamp-stays c.args.p c.requires.1)) (le-numbers zero_f c.args.p c.requires.1.0).1).1 refl
+
+pub returns : goal.returns
+returns c = c.eased.ensures ∙ rw c.easing_at.ensures refl
