@@ -1,5 +1,5 @@
 -- What the numbers of a log show, and how its report ends.
-use Rattle.std.specs.Prelude.{ℕ, min, Bool, cond, ◌&&◌, ◌||◌, nat_lt}
+use Rattle.std.specs.Prelude.{ℕ, Bool, cond, ◌&&◌, ◌||◌, nat_lt}
 use Rattle.audit.specs.declared.ending.End.{End}
 use Rattle.audit.specs.declared.ending.End.TheVariants.{Whole, Lacking, Refused, Unreadable}
 
