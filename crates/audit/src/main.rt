@@ -19,14 +19,15 @@ mod put;
 mod report;
 mod walk;
 
-use libc::STDERR_FILENO;
 use put::line;
-use tools::{Head, RampRead, end_refused, end_unreadable};
+use std::fs::File;
+use tools::{Head, RampRead, STDERR_FILENO, end_refused, end_unreadable};
 use tween::Tween;
 
 // Whether the words are there to work on.
-fn is_called() -> bool {
+fn is_called(rt: &HostRuntime) -> bool {
     tools::has_words(
+        rt,
         b"audit",
         b"usage: audit RAMP LOG\n",
         b"\n\
@@ -56,13 +57,13 @@ fn refused(number: u32) {
 }
 
 // The log on an open file.
-fn audit(fd: i32, t: Tween) {
-    let length = tools::length_of(fd);
-    match tools::read_head(fd, 2, length) {
-        Head::Whole => report::all(walk::all(fd, t, length)),
+fn audit(rt: &HostRuntime, file: &mut File, t: Tween) {
+    let length = tools::length_of(file);
+    match tools::read_head(rt, file, 2, length) {
+        Head::Whole => report::all(walk::all(rt, file, t, length)),
         Head::Refused(number) => refused(number),
         Head::Empty => {
-            tools::say_argument(STDERR_FILENO, 2);
+            tools::say_argument(rt, STDERR_FILENO, 2);
             tools::say(STDERR_FILENO, b": the log is empty\n");
             refused(15);
         }
@@ -70,24 +71,22 @@ fn audit(fd: i32, t: Tween) {
     }
 }
 
-fn main() {
-    if !is_called() {
+fn main(rt: HostRuntime) {
+    if !is_called(&rt) {
         return;
     }
-    let RampRead::Ramp(t) = tools::read_ramp(1) else {
+    let RampRead::Ramp(t) = tools::read_ramp(&rt, 1) else {
         end_unreadable();
         return;
     };
-    let fd = tools::open_argument(2);
-    if fd < 0 {
+    let Some(mut file) = tools::open_argument(&rt, 2) else {
         end_unreadable();
         return;
-    }
+    };
     tools::say_ramp(1, t);
     if tween::within(t) {
-        audit(fd, t);
+        audit(&rt, &mut file, t);
     } else {
         refused(4);
     }
-    libc::close(fd);
 }

@@ -1,7 +1,8 @@
 // A log from its first record to its last, a part at a time.
-use libc::STDERR_FILENO;
+use std::fs::File;
+use std::rt::HostRuntime;
 use survey::{Survey, survey_on};
-use tools::Length;
+use tools::{Length, STDERR_FILENO};
 use tween::Tween;
 
 // first is the number of the first record, 65,536 where there is none. failed: a read failed.
@@ -43,9 +44,9 @@ fn with_tail(s: Survey, bytes: usize, failed: bool) -> Survey {
 }
 
 // The next 65,536 bytes of the log.
-fn next_part(fd: i32, w: Walk) -> Walk {
+fn next_part(rt: &HostRuntime, file: &mut File, w: Walk) -> Walk {
     let mut buffer = io::large_buffer();
-    let filled = tools::fill_from(fd, 2, &mut buffer);
+    let filled = tools::fill_from(rt, file, 2, &mut buffer);
     let n = filled.bytes;
     let before = w.survey;
     let survey = with_tail(survey_on(before, &buffer[..n]), n, filled.failed);
@@ -76,13 +77,13 @@ fn say_progress(bytes: u64) {
 }
 
 // The whole log, behind its head.
-pub fn all(fd: i32, t: Tween, length: Length) -> Walk {
+pub fn all(rt: &HostRuntime, file: &mut File, t: Tween, length: Length) -> Walk {
     let long = is_long(length);
     let mut w = begin(t);
     let mut turns: u64 = 18446744073709551615;
     while turns > 0 {
         let before = w.bytes;
-        let next = next_part(fd, w);
+        let next = next_part(rt, file, w);
         w = next;
         let s = w.survey;
         if w.failed | (s.refused != 0) | (std::num::wrapping_sub_u64(w.bytes, before) < 65536) {

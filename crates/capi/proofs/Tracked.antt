@@ -52,21 +52,24 @@ use Rattle.capi.specs.Tracks.{on_track, lax_track_push, pushed, pushed_by, loop_
 abbrev pub answered : {A : Type 0} → ℕ → A → Answer A
 answered n a = record { number = n; left = a }
 
--- the number, and what is left
-pub both : {A : Type 0} (n : ℕ) (a : A) (x : Answer A) → answered n a ≡ x → (n ≡ x.number) × (a ≡ x.left)
-both n a x e = (ap (λ (y : Answer _). y.number) e, ap (λ (y : Answer _). y.left) e)
+-- the number, and what is left: the words of a record, or a place
+pub both_words : {A : Type 0} (n : ℕ) (a : A) (x : Answer A) → answered n a ≡ x → record { number : n ≡ x.number; words : a ≡ x.left }
+both_words n a x e = record { number = ap (λ (y : Answer _). y.number) e; words = ap (λ (y : Answer _). y.left) e }
+
+pub both_place : {A : Type 0} (n : ℕ) (a : A) (x : Answer A) → answered n a ≡ x → record { number : n ≡ x.number; place : a ≡ x.left }
+both_place n a x e = record { number = ap (λ (y : Answer _). y.number) e; place = ap (λ (y : Answer _). y.left) e }
 
 abbrev pub stepping : List ℕ → ℕ → TrackStepping
 stepping words running = record { words = words; running = running }
 
-pub three : (n : ℕ) (words : List ℕ) (running : ℕ) (x : Answer TrackStepping) → answered n (stepping words running) ≡ x → (n ≡ x.number) × ((words ≡ x.left.words) × (running ≡ x.left.running))
-three n words running x e = (ap (λ (y : Answer TrackStepping). y.number) e, (ap (λ (y : Answer TrackStepping). y.left.words) e, ap (λ (y : Answer TrackStepping). y.left.running) e))
+pub three : (n : ℕ) (words : List ℕ) (running : ℕ) (x : Answer TrackStepping) → answered n (stepping words running) ≡ x → record { number : n ≡ x.number; words : words ≡ x.left.words; place : running ≡ x.left.running }
+three n words running x e = record { number = ap (λ (y : Answer TrackStepping). y.number) e; words = ap (λ (y : Answer TrackStepping). y.left.words) e; place = ap (λ (y : Answer TrackStepping). y.left.running) e }
 
 abbrev pub filling : List Float → List ℕ → Filling
 filling out filled = record { out = out; filled = filled }
 
-pub parts : (n : ℕ) (out : List Float) (filled : List ℕ) (x : Answer Filling) → answered n (filling out filled) ≡ x → (n ≡ x.number) × ((out ≡ x.left.out) × (filled ≡ x.left.filled))
-parts n out filled x e = (ap (λ (y : Answer Filling). y.number) e, (ap (λ (y : Answer Filling). y.left.out) e, ap (λ (y : Answer Filling). y.left.filled) e))
+pub parts : (n : ℕ) (out : List Float) (filled : List ℕ) (x : Answer Filling) → answered n (filling out filled) ≡ x → record { number : n ≡ x.number; output : out ≡ x.left.out; places : filled ≡ x.left.filled }
+parts n out filled x e = record { number = ap (λ (y : Answer Filling). y.number) e; output = ap (λ (y : Answer Filling). y.left.out) e; places = ap (λ (y : Answer Filling). y.left.filled) e }
 
 -- words that do not pass
 module _ (words : List ℕ) (n : ℕ) (number : n ≡ check_of words) (some : n ≡ 0 → ⊥) where

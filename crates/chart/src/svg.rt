@@ -1,5 +1,5 @@
 // Pieces of the picture, on standard output.
-use libc::STDOUT_FILENO;
+use tools::STDOUT_FILENO;
 
 // Bytes as they are.
 pub fn say(text: &[u8]) {

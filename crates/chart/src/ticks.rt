@@ -55,7 +55,7 @@ fn say_behind_first(n: u64) {
     let mut text = [0u8; 20];
     let length = io::decimal(n, &mut text);
     if length >= 1 {
-        io::write_all(libc::STDOUT_FILENO, &text[1..length]);
+        io::write_all(tools::STDOUT_FILENO, &text[1..length]);
     }
 }
 

@@ -1,6 +1,6 @@
 // The ramp in short.
 use chart::svg::say;
-use libc::STDOUT_FILENO;
+use tools::STDOUT_FILENO;
 use tween::Tween;
 use words::LaxTween;
 

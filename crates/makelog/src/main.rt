@@ -11,7 +11,8 @@
 //     drop N        the numbers of N records are counted, and the records are not written
 //     repeat N      the record before is written N times more
 //
-// The whole script is read before LOG is opened. The last line is `end ok`, `end refused N` or
+// The whole script is read before LOG is opened. Where LOG is a pipe that nobody reads any more, nothing is
+// said of it. The last line is `end ok`, `end refused N` or
 // `end unreadable`.
 #![tactic(auto)]
 
@@ -19,13 +20,14 @@ mod order;
 mod script;
 mod sink;
 
-use libc::STDERR_FILENO;
 use script::Judged;
-use tools::say;
+use std::fs::File;
+use tools::{STDERR_FILENO, say};
 
 // Whether the words are there to work on.
-fn is_called() -> bool {
+fn is_called(rt: &HostRuntime) -> bool {
     tools::has_words(
+        rt,
         b"makelog",
         b"usage: makelog SCRIPT LOG\n",
         b"\n\
@@ -45,13 +47,13 @@ fn is_called() -> bool {
     )
 }
 
-fn wrong(text: &[u8], fault: lines::Fault) {
-    tools::say_fault(1, text, fault);
+fn wrong(rt: &HostRuntime, text: &[u8], fault: lines::Fault) {
+    tools::say_fault(rt, 1, text, fault);
     tools::end_unreadable();
 }
 
-fn refused(line: u64, number: u32) {
-    tools::say_argument(STDERR_FILENO, 1);
+fn refused(rt: &HostRuntime, line: u64, number: u32) {
+    tools::say_argument(rt, STDERR_FILENO, 1);
     say(STDERR_FILENO, b", line ");
     tools::say_number(STDERR_FILENO, line);
     say(STDERR_FILENO, b": refused ");
@@ -60,32 +62,23 @@ fn refused(line: u64, number: u32) {
     tools::end_refused(number);
 }
 
-// Opens the log for writing; below 0 where it can't.
-fn opened() -> i32 {
-    let mut path = io::buffer();
-    let length = os::arg(2, &mut path);
-    if os::errno() != 0 {
-        os::fail(b"the name of a file");
-        return -1;
-    }
-    let fd = os::open_overwrite(&path[..length]);
-    if fd < 0 {
-        tools::say_failed(&path[..length]);
-    }
-    fd
+// Opens the log for writing; None where it can't.
+fn opened(rt: &HostRuntime) -> Option<File> {
+    tools::open_overwrite(rt, 2)
 }
 
-fn written(text: &[u8]) {
-    let fd = opened();
-    if fd < 0 {
+fn written(rt: &HostRuntime, text: &[u8]) {
+    let Some(mut file) = opened(rt) else {
         tools::end_unreadable();
         return;
-    }
-    let out = sink::write_log(fd, text);
-    libc::close(fd);
+    };
+    let out = sink::write_log(&mut file, text);
+    drop(file);
     if out.failed {
-        tools::say_argument(STDERR_FILENO, 2);
-        say(STDERR_FILENO, b": the log can't be written\n");
+        if !out.unread {
+            tools::say_argument(rt, STDERR_FILENO, 2);
+            say(STDERR_FILENO, b": the log can't be written\n");
+        }
         tools::end_unreadable();
         return;
     }
@@ -94,24 +87,24 @@ fn written(text: &[u8]) {
     say(1, b"\nend ok\n");
 }
 
-fn run(text: &[u8]) {
+fn run(rt: &HostRuntime, text: &[u8]) {
     match script::judge(text) {
-        Judged::Right => written(text),
-        Judged::Wrong(fault) => wrong(text, fault),
-        Judged::Refused(line, number) => refused(line, number),
+        Judged::Right => written(rt, text),
+        Judged::Wrong(fault) => wrong(rt, text, fault),
+        Judged::Refused(line, number) => refused(rt, line, number),
     }
 }
 
-fn main() {
-    if !is_called() {
+fn main(rt: HostRuntime) {
+    if !is_called(&rt) {
         return;
     }
     let mut text = io::large_buffer();
-    let filled = tools::read_text(1, &mut text);
+    let filled = tools::read_text(&rt, 1, &mut text);
     if filled.failed {
         tools::end_unreadable();
         return;
     }
     let length = filled.bytes;
-    run(&text[..length]);
+    run(&rt, &text[..length]);
 }

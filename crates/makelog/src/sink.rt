@@ -1,15 +1,18 @@
 // The log, written out a buffer at a time.
 use crate::order::{Order, order_at};
 use event_log::{Event, Logged};
+use std::fs::File;
+use std::io::{ErrorKind, Write};
 
 // The buffer begins with the head. written bytes of it are the log that the writer sees, and those before
-// fresh are in the file already. records went out or will.
+// fresh are in the file already. records went out or will. unread: it failed as a pipe that nobody reads.
 #[derive(Clone, Copy)]
 pub struct Sink {
     pub written: usize,
     pub fresh: usize,
     pub records: u64,
     pub failed: bool,
+    pub unread: bool,
 }
 
 fn failed(s: Sink) -> Sink {
@@ -35,21 +38,28 @@ fn keep_last(buffer: &mut [u8; 65536], written: usize) -> usize {
     13
 }
 
-fn write_part(fd: i32, bytes: &[u8], from: usize, to: usize) -> bool {
+// Some of the buffer goes out.
+fn write_part(file: &mut File, bytes: &[u8], s: Sink, from: usize, to: usize) -> Sink {
     if to > bytes.len() {
-        return false;
+        return failed(s);
     }
     if from > to {
-        return false;
+        return failed(s);
     }
-    io::write_all(fd, &bytes[from..to])
+    match file.write_all(&bytes[from..to]) {
+        Ok(()) => s,
+        Err(error) => {
+            let mut t = failed(s);
+            t.unread = error.kind() == ErrorKind::BrokenPipe;
+            t
+        }
+    }
 }
 
 // What is fresh goes out.
-fn flushed(fd: i32, buffer: &mut [u8; 65536], s: Sink) -> Sink {
-    let mut t = s;
-    if !write_part(fd, buffer, s.fresh, s.written) {
-        t.failed = true;
+fn flushed(file: &mut File, buffer: &mut [u8; 65536], s: Sink) -> Sink {
+    let mut t = write_part(file, buffer, s, s.fresh, s.written);
+    if t.failed {
         return t;
     }
     let kept = keep_last(buffer, s.written);
@@ -71,18 +81,24 @@ fn put(buffer: &mut [u8; 65536], s: Sink, event: Event) -> Sink {
     }
 }
 
-fn with_room(fd: i32, buffer: &mut [u8; 65536], s: Sink) -> Sink {
+fn with_room(file: &mut File, buffer: &mut [u8; 65536], s: Sink) -> Sink {
     if s.written < 65528 {
         return s;
     }
-    flushed(fd, buffer, s)
+    flushed(file, buffer, s)
 }
 
-fn write_times(fd: i32, buffer: &mut [u8; 65536], first: Sink, event: Event, times: u32) -> Sink {
+fn write_times(
+    file: &mut File,
+    buffer: &mut [u8; 65536],
+    first: Sink,
+    event: Event,
+    times: u32,
+) -> Sink {
     let mut s = first;
     let mut i: u32 = 0;
     while i < times {
-        let room = with_room(fd, buffer, s);
+        let room = with_room(file, buffer, s);
         s = put(buffer, room, event);
         if s.failed {
             return s;
@@ -93,8 +109,8 @@ fn write_times(fd: i32, buffer: &mut [u8; 65536], first: Sink, event: Event, tim
 }
 
 // Numbers have 16 bits: 65,536 records that are dropped leave no trace.
-fn drop_times(fd: i32, buffer: &mut [u8; 65536], first: Sink, times: u32) -> Sink {
-    let mut s = flushed(fd, buffer, first);
+fn drop_times(file: &mut File, buffer: &mut [u8; 65536], first: Sink, times: u32) -> Sink {
+    let mut s = flushed(file, buffer, first);
     let many = times % 65536;
     let mut i: u32 = 0;
     while i < many {
@@ -109,12 +125,13 @@ fn drop_times(fd: i32, buffer: &mut [u8; 65536], first: Sink, times: u32) -> Sin
 }
 
 // The last record once more: it stands at 5, behind the head.
-fn repeat_times(fd: i32, buffer: &mut [u8; 65536], first: Sink, times: u32) -> Sink {
-    let mut s = flushed(fd, buffer, first);
+fn repeat_times(file: &mut File, buffer: &mut [u8; 65536], first: Sink, times: u32) -> Sink {
+    let mut s = flushed(file, buffer, first);
     let mut i: u32 = 0;
     while i < times {
-        if !write_part(fd, buffer, 5, 13) {
-            return failed(s);
+        s = write_part(file, buffer, s, 5, 13);
+        if s.failed {
+            return s;
         }
         s.records = std::num::wrapping_add_u64(s.records, 1);
         i += 1;
@@ -122,12 +139,12 @@ fn repeat_times(fd: i32, buffer: &mut [u8; 65536], first: Sink, times: u32) -> S
     s
 }
 
-fn obeyed(fd: i32, buffer: &mut [u8; 65536], s: Sink, order: Order) -> Sink {
+fn obeyed(file: &mut File, buffer: &mut [u8; 65536], s: Sink, order: Order) -> Sink {
     match order {
         Order::Nothing => s,
-        Order::Write(event, times) => write_times(fd, buffer, s, event, times),
-        Order::Drop(n) => drop_times(fd, buffer, s, n),
-        Order::Repeat(n) => repeat_times(fd, buffer, s, n),
+        Order::Write(event, times) => write_times(file, buffer, s, event, times),
+        Order::Drop(n) => drop_times(file, buffer, s, n),
+        Order::Repeat(n) => repeat_times(file, buffer, s, n),
         Order::Wrong(_, _) => failed(s),
     }
 }
@@ -139,20 +156,21 @@ fn begun(buffer: &mut [u8; 65536]) -> Sink {
         fresh: 0,
         records: 0,
         failed: false,
+        unread: false,
     }
 }
 
 // The log of a script that was judged right.
-pub fn write_log(fd: i32, text: &[u8]) -> Sink {
+pub fn write_log(file: &mut File, text: &[u8]) -> Sink {
     let mut buffer = io::large_buffer();
     let mut s = begun(&mut buffer);
     let mut at: usize = 0;
     while at < text.len() {
-        s = obeyed(fd, &mut buffer, s, order_at(text, at));
+        s = obeyed(file, &mut buffer, s, order_at(text, at));
         if s.failed {
             return s;
         }
         at = lines::line_behind(text, at);
     }
-    flushed(fd, &mut buffer, s)
+    flushed(file, &mut buffer, s)
 }

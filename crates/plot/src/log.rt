@@ -4,9 +4,11 @@ use drawing::columns::{Table, note};
 use drawing::course::{Course, begin, heard};
 use drawing::frame::{Frame, frame_of};
 use drawing::picture::picture_of_log;
-use libc::STDERR_FILENO;
 use reader::record_at;
-use tools::{Head, Length, end_unreadable};
+use std::fs::File;
+use std::io::{Seek, SeekFrom};
+use std::rt::HostRuntime;
+use tools::{Head, Length, STDERR_FILENO, end_unreadable};
 use tween::Tween;
 
 // Over the records of a chunk, until one is refused.
@@ -25,9 +27,15 @@ fn over_records(bytes: &[u8], first: Course, frame: Frame, table: &mut Table) ->
 }
 
 // Over the next chunk of a file.
-fn over_chunk(fd: i32, c: Course, frame: Frame, table: &mut Table) -> Course {
+fn over_chunk(
+    rt: &HostRuntime,
+    file: &mut File,
+    c: Course,
+    frame: Frame,
+    table: &mut Table,
+) -> Course {
     let mut buffer = io::large_buffer();
-    let filled = tools::fill_from(fd, 2, &mut buffer);
+    let filled = tools::fill_from(rt, file, 2, &mut buffer);
     if filled.failed {
         let mut next = c;
         next.failed = true;
@@ -38,12 +46,19 @@ fn over_chunk(fd: i32, c: Course, frame: Frame, table: &mut Table) -> Course {
 }
 
 // Over so many chunks.
-fn over_chunks(fd: i32, chunks: u64, first: Course, frame: Frame, table: &mut Table) -> Course {
+fn over_chunks(
+    rt: &HostRuntime,
+    file: &mut File,
+    chunks: u64,
+    first: Course,
+    frame: Frame,
+    table: &mut Table,
+) -> Course {
     let mut c = first;
     note(table, frame, c);
     let mut left = chunks;
     while left > 0 {
-        c = over_chunk(fd, c, frame, table);
+        c = over_chunk(rt, file, c, frame, table);
         if c.failed {
             return c;
         }
@@ -56,20 +71,20 @@ fn over_chunks(fd: i32, chunks: u64, first: Course, frame: Frame, table: &mut Ta
 }
 
 // Goes over the records, then back to the first to draw them.
-fn draw_chunks(fd: i32, t: Tween, chunks: u64) {
+fn draw_chunks(rt: &HostRuntime, file: &mut File, t: Tween, chunks: u64) {
     let mut table = [0u64; 10092];
     let start = begin(t);
-    let seen = over_chunks(fd, chunks, start, frame_of(false, start), &mut table);
+    let seen = over_chunks(rt, file, chunks, start, frame_of(false, start), &mut table);
     if seen.failed {
         end_unreadable();
         return;
     }
     let frame = frame_of(true, seen);
-    if libc::lseek(fd, 5, libc::SEEK_SET) != 5 {
-        unread();
+    if file.seek(SeekFrom::Start(5)).is_err() {
+        unread(rt);
         return;
     }
-    let c = over_chunks(fd, chunks, start, frame, &mut table);
+    let c = over_chunks(rt, file, chunks, start, frame, &mut table);
     if c.failed {
         end_unreadable();
         return;
@@ -78,27 +93,27 @@ fn draw_chunks(fd: i32, t: Tween, chunks: u64) {
 }
 
 // A file of so many bytes.
-fn draw_bytes(fd: i32, t: Tween, length: u64) {
-    match tools::read_head(fd, 2, Length::Bytes(length)) {
+fn draw_bytes(rt: &HostRuntime, file: &mut File, t: Tween, length: u64) {
+    match tools::read_head(rt, file, 2, Length::Bytes(length)) {
         Head::Whole => {
             if length < 5 {
-                unread();
+                unread(rt);
                 return;
             }
-            draw_chunks(fd, t, (length - 5) / 65536 + 1);
+            draw_chunks(rt, file, t, (length - 5) / 65536 + 1);
         }
-        Head::Refused(number) => refuse(2, number),
-        Head::Empty => refuse(2, 15),
+        Head::Refused(number) => refuse(rt, 2, number),
+        Head::Empty => refuse(rt, 2, 15),
         Head::Unreadable => end_unreadable(),
     }
 }
 
 // Draws the log on an open file.
-pub fn draw_log(fd: i32, t: Tween) {
-    match tools::length_of(fd) {
-        Length::Bytes(length) => draw_bytes(fd, t, length),
+pub fn draw_log(rt: &HostRuntime, file: &mut File, t: Tween) {
+    match tools::length_of(file) {
+        Length::Bytes(length) => draw_bytes(rt, file, t, length),
         Length::Unknown => {
-            tools::say_argument(STDERR_FILENO, 2);
+            tools::say_argument(rt, STDERR_FILENO, 2);
             tools::say(
                 STDERR_FILENO,
                 b": a log is read twice, so it has to be a file and no pipe\n",

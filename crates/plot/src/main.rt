@@ -12,8 +12,9 @@ use tools::RampRead;
 use tween::Tween;
 
 // Whether the words are there to work on.
-fn is_called() -> bool {
+fn is_called(rt: &HostRuntime) -> bool {
     tools::has_words(
+        rt,
         b"plot",
         b"usage: plot RAMP [LOG]\n",
         b"\n\
@@ -34,31 +35,29 @@ fn is_called() -> bool {
 }
 
 // Draws the log that the second argument names, or the ramp alone.
-fn draw(t: Tween) {
-    if os::arg_count() < 3 {
+fn draw(rt: &HostRuntime, t: Tween) {
+    if !tools::has_argument(rt, 2) {
         alone::draw_alone(t);
         return;
     }
-    let fd = tools::open_argument(2);
-    if fd < 0 {
+    let Some(mut file) = tools::open_argument(rt, 2) else {
         tools::end_unreadable();
         return;
-    }
-    log::draw_log(fd, t);
-    libc::close(fd);
+    };
+    log::draw_log(rt, &mut file, t);
 }
 
-fn main() {
-    if !is_called() {
+fn main(rt: HostRuntime) {
+    if !is_called(&rt) {
         return;
     }
-    let RampRead::Ramp(t) = tools::read_ramp(1) else {
+    let RampRead::Ramp(t) = tools::read_ramp(&rt, 1) else {
         tools::end_unreadable();
         return;
     };
     if !tween::within(t) {
-        refusing::refuse(1, 4);
+        refusing::refuse(&rt, 1, 4);
         return;
     }
-    draw(t);
+    draw(&rt, t);
 }

@@ -1,16 +1,17 @@
 // Where there is no picture: a line on standard error that says why, and one on standard output.
-use libc::STDERR_FILENO;
+use std::rt::HostRuntime;
+use tools::STDERR_FILENO;
 
 // The log changed while it was read.
-pub fn unread() {
-    tools::say_argument(STDERR_FILENO, 2);
+pub fn unread(rt: &HostRuntime) {
+    tools::say_argument(rt, STDERR_FILENO, 2);
     tools::say(STDERR_FILENO, b": cannot be read\n");
     tools::end_unreadable();
 }
 
 // A refusal, by its number, of the file that an argument names.
-pub fn refuse(argument: usize, number: u32) {
-    tools::say_argument(STDERR_FILENO, argument);
+pub fn refuse(rt: &HostRuntime, argument: usize, number: u32) {
+    tools::say_argument(rt, STDERR_FILENO, argument);
     tools::say(STDERR_FILENO, b": refused ");
     tools::say_refusal(STDERR_FILENO, number);
     tools::say(STDERR_FILENO, b"\n");

@@ -9,18 +9,29 @@ mod tracks;
 mod tweens;
 mod walk;
 
-fn main() {
+use std::rt::Env;
+use tools::STDERR_FILENO;
+
+// The list that a path names.
+fn answer(rt: &HostRuntime, path: &[u8]) {
+    match tools::open_read(rt, path) {
+        Ok(file) => {
+            let mut list = file;
+            report::all(walk::all(&mut list));
+        }
+        Err(error) => {
+            tools::say(STDERR_FILENO, path);
+            tools::say(STDERR_FILENO, b": ");
+            tools::say_reason(STDERR_FILENO, error);
+            tools::say(STDERR_FILENO, b"\n");
+        }
+    }
+}
+
+fn main(rt: HostRuntime) {
     let mut path = io::buffer();
-    let length = os::arg(1, &mut path);
-    if os::errno() != 0 {
-        os::fail(b"usage: replay LIST");
-        return;
+    match rt.arg(1, &mut path) {
+        Ok(length) => answer(&rt, &path[..length]),
+        Err(error) => tools::say_no_argument(b"usage: replay LIST", error),
     }
-    let fd = os::open_read(&path[..length]);
-    if fd < 0 {
-        os::fail(&path[..length]);
-        return;
-    }
-    report::all(walk::all(fd));
-    libc::close(fd);
 }

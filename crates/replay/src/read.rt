@@ -3,6 +3,7 @@
 ghost use Rattle.std.specs.Prelude.{◌<◌, ◌≤◌};
 
 use rows::{Row, nothing};
+use std::fs::File;
 
 #[derive(Clone, Copy)]
 pub struct Entry {
@@ -28,11 +29,11 @@ fn joined(a: u8, b: u8, c: u8, d: u8) -> u32 {
     wide(a) + 0x100 * wide(b) + 0x1_0000 * wide(c) + 0x100_0000 * wide(d)
 }
 
-fn taken(fd: i32, size: usize) -> Part
+fn taken(file: &mut File, size: usize) -> Part
     requires { size ≤ 4096 }
 {
     let mut bytes = io::buffer();
-    let n = io::read_full(fd, &mut bytes[..size]);
+    let n = tools::fill(file, &mut bytes[..size]).bytes;
     Part {
         is_whole: n == size,
         bytes,
@@ -62,12 +63,12 @@ fn cut() -> Entry {
 }
 
 // The words of an entry, from what its first word says.
-fn body(fd: i32, first: u32) -> Entry {
+fn body(file: &mut File, first: u32) -> Entry {
     let count = (first / 256) as usize;
     if 1023 < count {
         return cut();
     }
-    let rest = taken(fd, 4 * count);
+    let rest = taken(file, 4 * count);
     if !rest.is_whole {
         return cut();
     }
@@ -79,11 +80,11 @@ fn body(fd: i32, first: u32) -> Entry {
     }
 }
 
-pub fn next(fd: i32) -> Entry {
-    let head = taken(fd, 4);
+pub fn next(file: &mut File) -> Entry {
+    let head = taken(file, 4);
     if !head.is_whole {
         return cut();
     }
     let b = head.bytes;
-    body(fd, joined(b[0], b[1], b[2], b[3]))
+    body(file, joined(b[0], b[1], b[2], b[3]))
 }

@@ -3,7 +3,7 @@ ghost use Rattle.std.specs.Prelude.{◌≤◌};
 ghost use Rattle.io.specs.Counts.{IsPrefixLen};
 
 use crate::walk::Tally;
-use libc::STDOUT_FILENO;
+use tools::STDOUT_FILENO;
 
 fn line(name: &[u8], n: u64) {
     io::write_all(STDOUT_FILENO, name);

@@ -4,6 +4,7 @@ ghost use Rattle.std.specs.Prelude.{◌<◌};
 use crate::read::{Entry, next};
 use crate::{easings, tracks, tweens};
 use rows::{Row, is_answer, length_at, nothing, track_in, tween_in, word};
+use std::fs::File;
 use words::{LaxTrack, LaxTween};
 
 // The records that were last given.
@@ -155,12 +156,12 @@ fn renewed(given: Given, call: u32, row: Row) -> Given {
 }
 
 // The list ends in an entry of its own; the count of turns is more than it has.
-pub fn all(fd: i32) -> Tally {
+pub fn all(file: &mut File) -> Tally {
     let mut given = none_given();
     let mut tally = begin();
     let mut turns: u32 = 1000000;
     while 0 < turns {
-        let entry = next(fd);
+        let entry = next(file);
         tally = took(tally, given, entry);
         if !tally.goes_on {
             return tally;

@@ -13,7 +13,7 @@ use Rattle.reader.specs.Records.{records_of}
 use Rattle.reader.specs.Hearing.{heard_of}
 use Rattle.reader.proofs.Readings.{records-next}
 use Rattle.survey.specs.declared.survey.Counts.{Counts}
-use Rattle.survey.specs.Survey.{counted_of, Course, survey_of}
+use Rattle.survey.specs.Survey.{counted_of, survey_of}
 
 pub record Reached (bytes : List ℕ) (s₀ : Replay) (k₀ : Counts) (s : Replay) (k : Counts) (i : ℕ) : Type 0 where
   pub course-is : survey_of (records_of bytes) s₀ k₀ ≡ survey_of (records_of (drop (i * 8) bytes)) s k

@@ -1,5 +1,6 @@
 // Rows of numbers, right aligned.
-use libc::STDOUT_FILENO;
+// Standard output.
+const STDOUT_FILENO: i32 = 1;
 
 pub fn line(text: &[u8]) {
     io::write_all(STDOUT_FILENO, text);

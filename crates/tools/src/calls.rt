@@ -1,19 +1,34 @@
 // The words that a program is called with.
 use crate::ends::end_unreadable;
-use crate::saying::say;
+use crate::files::argument;
+use crate::saying::{STDERR_FILENO, STDOUT_FILENO, say};
 use crate::version::VERSION;
-use libc::{STDERR_FILENO, STDOUT_FILENO};
 use lines::{Word, is_name};
+use std::env::FillError;
+use std::rt::{Env, HostRuntime};
+
+// Whether there is an argument i, of any length.
+pub fn has_argument(rt: &HostRuntime, i: usize) -> bool {
+    match rt.arg(i, &mut []) {
+        Err(FillError::NotPresent) => false,
+        _ => true,
+    }
+}
 
 // Whether the program is called with one word, and which. A file of that name is found behind `./`.
-fn is_asked(name: [u8; 20]) -> bool {
+fn is_asked(rt: &HostRuntime, name: [u8; 20]) -> bool {
     let mut word = io::buffer();
-    let length = os::arg(1, &mut word);
+    let length = argument(rt, 1, &mut word);
     let whole = Word {
         from: 0,
         to: length,
     };
-    (os::arg_count() == 2) & is_name(&word[..length], whole, name)
+    has_argument(rt, 1) & !has_argument(rt, 2) & is_name(&word[..length], whole, name)
+}
+
+// Whether there are fewer words than that.
+fn is_missing(rt: &HostRuntime, least: usize) -> bool {
+    (least > 0) && !has_argument(rt, least - 1)
 }
 
 fn say_version(name: &[u8]) {
@@ -25,18 +40,25 @@ fn say_version(name: &[u8]) {
 
 // Whether there are from `least` to `most` words, the program's own among them. Where not, the help, the version
 // or the usage is printed, and the program has nothing left to do.
-pub fn has_words(name: &[u8], usage: &[u8], help: &[u8], least: usize, most: usize) -> bool {
-    if is_asked(*b"--version           ") {
+pub fn has_words(
+    rt: &HostRuntime,
+    name: &[u8],
+    usage: &[u8],
+    help: &[u8],
+    least: usize,
+    most: usize,
+) -> bool {
+    if is_asked(rt, *b"--version           ") {
         say_version(name);
         return false;
     }
-    if is_asked(*b"--help              ") {
+    if is_asked(rt, *b"--help              ") {
         say(STDOUT_FILENO, usage);
         say(STDOUT_FILENO, help);
         say_version(name);
         return false;
     }
-    if (os::arg_count() < least) | (os::arg_count() > most) {
+    if is_missing(rt, least) | has_argument(rt, most) {
         say(STDERR_FILENO, usage);
         end_unreadable();
         return false;

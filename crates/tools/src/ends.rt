@@ -1,6 +1,5 @@
 // Last lines, by which a script tells how a program ended.
-use crate::saying::{say, say_number};
-use libc::STDOUT_FILENO;
+use crate::saying::{STDOUT_FILENO, say, say_number};
 
 // A file can't be read, or is no ramp or script.
 pub fn end_unreadable() {

@@ -1,9 +1,9 @@
 // What is wrong, in words.
 use crate::files::say_argument;
 use crate::quoting::say_quote;
-use crate::saying::{say, say_name, say_number};
-use libc::STDERR_FILENO;
+use crate::saying::{STDERR_FILENO, say, say_name, say_number};
 use lines::{Expected, Fault, Word};
+use std::rt::HostRuntime;
 
 fn say_expected(expected: Expected) {
     match expected {
@@ -54,8 +54,8 @@ fn say_found(text: &[u8], word: Word) {
 }
 
 // On standard error: the argument's file, the line, what was found there, and what was expected.
-pub fn say_fault(argument: usize, text: &[u8], fault: Fault) {
-    say_argument(STDERR_FILENO, argument);
+pub fn say_fault(rt: &HostRuntime, argument: usize, text: &[u8], fault: Fault) {
+    say_argument(rt, STDERR_FILENO, argument);
     say(STDERR_FILENO, b", line ");
     say_number(STDERR_FILENO, fault.line);
     say(STDERR_FILENO, b": found ");

@@ -2,35 +2,99 @@
 ghost use Rattle.io.specs.Counts.{IsPrefixLen};
 
 use crate::quoting::say_bytes;
-use crate::saying::say;
-use libc::STDERR_FILENO;
+use crate::reasons::{say_no_argument, say_reason};
+use crate::saying::{STDERR_FILENO, say};
+use std::fs::File;
+use std::io::{Error, ErrorKind, Read, Seek, SeekFrom};
+use std::rt::{Env, HostRuntime};
 
-// On standard error: the name of a file, and why it failed. A write that succeeds leaves errno as it is.
-pub fn say_failed(path: &[u8]) {
+// Puts an argument at the start of a buffer, and returns its length: 0 where it is missing or too long.
+pub fn argument(rt: &HostRuntime, i: usize, buffer: &mut [u8]) -> usize
+    ensures { IsPrefixLen result buffer.new }
+{
+    match rt.arg(i, buffer) {
+        Ok(n) => n,
+        Err(_) => 0,
+    }
+}
+
+// On standard error: the name of a file, and why it failed.
+pub fn say_failed(path: &[u8], error: Error) {
     say_bytes(STDERR_FILENO, path);
-    os::fail(b"");
+    say(STDERR_FILENO, b": ");
+    say_reason(STDERR_FILENO, error);
+    say(STDERR_FILENO, b"\n");
 }
 
-// Opens the file that an argument names, for reading. Below 0 where it can't, and then standard error has
+// The name of a file as text, which every name is that std opens.
+fn name_of(path: &[u8]) -> Result<&str, Error> {
+    match std::str::from_utf8(path) {
+        Ok(name) => Ok(name),
+        Err(_) => Err(Error::new(ErrorKind::InvalidInput, "the name is no UTF-8")),
+    }
+}
+
+// How a file is opened: to be read, or to be written anew.
+#[derive(Clone, Copy)]
+enum Opening {
+    Read,
+    Overwrite,
+}
+
+fn open_path(rt: &HostRuntime, path: &[u8], how: Opening) -> Result<File, Error> {
+    match name_of(path) {
+        Ok(name) => match how {
+            Opening::Read => File::open(rt, name),
+            Opening::Overwrite => File::create(rt, name),
+        },
+        Err(error) => Err(error),
+    }
+}
+
+// Opens the file that a path names, for reading.
+pub fn open_read(rt: &HostRuntime, path: &[u8]) -> Result<File, Error> {
+    open_path(rt, path, Opening::Read)
+}
+
+fn opened(rt: &HostRuntime, i: usize, how: Opening) -> Option<File> {
+    let mut path = io::buffer();
+    match rt.arg(i, &mut path) {
+        Ok(length) => match open_path(rt, &path[..length], how) {
+            Ok(file) => Some(file),
+            Err(error) => {
+                say_failed(&path[..length], error);
+                None
+            }
+        },
+        Err(error) => {
+            say_no_argument(b"the name of a file", error);
+            None
+        }
+    }
+}
+
+// Opens the file that an argument names, for reading. None where it can't, and then standard error has
 // a line that says why.
-pub fn open_argument(i: usize) -> i32 {
-    let mut path = io::buffer();
-    let length = os::arg(i, &mut path);
-    if os::errno() != 0 {
-        os::fail(b"the name of a file");
-        return -1;
-    }
-    let fd = os::open_read(&path[..length]);
-    if fd < 0 {
-        say_failed(&path[..length]);
-    }
-    fd
+pub fn open_argument(rt: &HostRuntime, i: usize) -> Option<File> {
+    opened(rt, i, Opening::Read)
 }
 
-pub fn say_argument(fd: i32, i: usize) {
+// The same, for writing; what the file held is lost.
+pub fn open_overwrite(rt: &HostRuntime, i: usize) -> Option<File> {
+    opened(rt, i, Opening::Overwrite)
+}
+
+pub fn say_argument(rt: &HostRuntime, fd: i32, i: usize) {
     let mut path = io::buffer();
-    let length = os::arg(i, &mut path);
+    let length = argument(rt, i, &mut path);
     say_bytes(fd, &path[..length]);
+}
+
+// bytes of the buffer were filled. error: why a read failed, where the file did not end.
+#[derive(Clone, Copy)]
+struct Part {
+    bytes: usize,
+    error: Option<Error>,
 }
 
 // bytes of the buffer were filled. failed: a read failed, and not the file ended.
@@ -40,65 +104,78 @@ pub struct Filled {
     pub failed: bool,
 }
 
-// Reads until the buffer is full, the file ends or a read fails.
-pub fn fill(fd: i32, buffer: &mut [u8]) -> Filled
+fn read_part(file: &mut File, buffer: &mut [u8]) -> Part
     ensures { IsPrefixLen result.bytes buffer.new }
 {
     let mut bytes: usize = 0;
     while bytes < buffer.len() {
-        let got = libc::read(fd, &mut buffer[bytes..]);
-        if got < 0 {
-            return Filled {
-                bytes,
-                failed: true,
-            };
+        match file.read(&mut buffer[bytes..]) {
+            Ok(more) => {
+                if more == 0 {
+                    return Part { bytes, error: None };
+                }
+                bytes += more;
+            }
+            Err(error) => {
+                return Part {
+                    bytes,
+                    error: Some(error),
+                };
+            }
         }
-        let more = io::count(got, &buffer[bytes..]);
-        if more == 0 {
-            return Filled {
-                bytes,
-                failed: false,
-            };
-        }
-        bytes += more;
     }
+    Part { bytes, error: None }
+}
+
+// Reads until the buffer is full, the file ends or a read fails.
+pub fn fill(file: &mut File, buffer: &mut [u8]) -> Filled
+    ensures { IsPrefixLen result.bytes buffer.new }
+{
+    let part = read_part(file, buffer);
     Filled {
-        bytes,
-        failed: false,
+        bytes: part.bytes,
+        failed: part.error.is_some(),
     }
 }
 
 // The same, of the file that an argument names. Where a read fails standard error has a line that says why.
-pub fn fill_from(fd: i32, argument: usize, buffer: &mut [u8]) -> Filled
+pub fn fill_from(rt: &HostRuntime, file: &mut File, i: usize, buffer: &mut [u8]) -> Filled
     ensures { IsPrefixLen result.bytes buffer.new }
 {
     let mut path = io::buffer();
-    let length = os::arg(argument, &mut path);
-    let filled = fill(fd, buffer);
-    if filled.failed {
-        say_failed(&path[..length]);
+    let length = argument(rt, i, &mut path);
+    let part = read_part(file, buffer);
+    match part.error {
+        Some(error) => {
+            say_failed(&path[..length], error);
+            Filled {
+                bytes: part.bytes,
+                failed: true,
+            }
+        }
+        None => Filled {
+            bytes: part.bytes,
+            failed: false,
+        },
     }
-    filled
 }
 
 // The whole text of the file that an argument names, which has to be shorter than the buffer. failed:
 // standard error has a line that says why.
-pub fn read_text(argument: usize, buffer: &mut [u8]) -> Filled
+pub fn read_text(rt: &HostRuntime, i: usize, buffer: &mut [u8]) -> Filled
     ensures { IsPrefixLen result.bytes buffer.new }
 {
-    let fd = open_argument(argument);
-    if fd < 0 {
+    let Some(mut file) = open_argument(rt, i) else {
         return Filled {
             bytes: 0,
             failed: true,
         };
-    }
-    let filled = fill_from(fd, argument, buffer);
-    libc::close(fd);
+    };
+    let filled = fill_from(rt, &mut file, i, buffer);
     if filled.failed | (filled.bytes < buffer.len()) {
         return filled;
     }
-    say_argument(STDERR_FILENO, argument);
+    say_argument(rt, STDERR_FILENO, i);
     say(STDERR_FILENO, b": the file is too long\n");
     Filled {
         bytes: 0,
@@ -113,22 +190,13 @@ pub enum Length {
     Unknown,
 }
 
-// 0 for what is below 0.
-fn bytes_in(length: i64) -> u64 {
-    if length < 0 {
-        return 0;
-    }
-    length as u64
-}
-
 // The length of a file, whose position goes to its start.
-pub fn length_of(fd: i32) -> Length {
-    let length = libc::lseek(fd, 0, libc::SEEK_END);
-    if length < 0 {
-        return Length::Unknown;
+pub fn length_of(file: &mut File) -> Length {
+    match file.seek(SeekFrom::End(0)) {
+        Ok(length) => match file.seek(SeekFrom::Start(0)) {
+            Ok(0) => Length::Bytes(length),
+            _ => Length::Unknown,
+        },
+        Err(_) => Length::Unknown,
     }
-    if libc::lseek(fd, 0, libc::SEEK_SET) != 0 {
-        return Length::Unknown;
-    }
-    Length::Bytes(bytes_in(length))
 }

@@ -1,6 +1,8 @@
 // The head of a log, and its length where it is a file.
 use crate::files::{Length, fill_from};
 use event_log::{has_mark, has_version};
+use std::fs::File;
+use std::rt::HostRuntime;
 
 #[derive(Clone, Copy)]
 pub enum Head {
@@ -40,9 +42,9 @@ fn judged(head: &[u8], length: Length) -> Head {
 }
 
 // Reads the head of the log that an argument names, from its start.
-pub fn read_head(fd: i32, argument: usize, length: Length) -> Head {
+pub fn read_head(rt: &HostRuntime, file: &mut File, argument: usize, length: Length) -> Head {
     let mut head = [0u8; 5];
-    let filled = fill_from(fd, argument, &mut head);
+    let filled = fill_from(rt, file, argument, &mut head);
     if filled.failed {
         return Head::Unreadable;
     }

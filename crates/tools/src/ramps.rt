@@ -3,6 +3,7 @@ use crate::explain::say_fault;
 use crate::files::read_text;
 use crate::saying::{say, say_float, say_name, say_number};
 use ramp::{Parsed, parse_ramp};
+use std::rt::HostRuntime;
 use tween::Tween;
 use words::{LaxEasing, LaxLoop};
 
@@ -13,25 +14,25 @@ pub enum RampRead {
     Unreadable,
 }
 
-fn parsed(argument: usize, text: &[u8]) -> RampRead {
+fn parsed(rt: &HostRuntime, argument: usize, text: &[u8]) -> RampRead {
     match parse_ramp(text) {
         Parsed::Ramp(t) => RampRead::Ramp(t),
         Parsed::Wrong(fault) => {
-            say_fault(argument, text, fault);
+            say_fault(rt, argument, text, fault);
             RampRead::Unreadable
         }
     }
 }
 
 // The ramp of a file of at most 65,535 bytes.
-pub fn read_ramp(argument: usize) -> RampRead {
+pub fn read_ramp(rt: &HostRuntime, argument: usize) -> RampRead {
     let mut text = io::large_buffer();
-    let filled = read_text(argument, &mut text);
+    let filled = read_text(rt, argument, &mut text);
     if filled.failed {
         return RampRead::Unreadable;
     }
     let length = filled.bytes;
-    parsed(argument, &text[..length])
+    parsed(rt, argument, &text[..length])
 }
 
 fn say_parameter(fd: i32, x: f32) {

@@ -1,6 +1,10 @@
 // Words and numbers on a descriptor.
 use names::Name;
 
+pub const STDOUT_FILENO: i32 = 1;
+
+pub const STDERR_FILENO: i32 = 2;
+
 pub fn say(fd: i32, text: &[u8]) {
     io::write_all(fd, text);
 }

@@ -1,7 +1,8 @@
 // What the program writes.
 ghost use Rattle.std.specs.Prelude.{◌<◌};
 
-use libc::STDOUT_FILENO;
+// Standard output.
+const STDOUT_FILENO: i32 = 1;
 
 // The line of one example.
 pub fn line(name: &[u8], holds: bool) {

@@ -1,0 +1,6 @@
+-- `put_flag` meets its contract, by what its callees ensure. Assumes nothing.
+use borrow.Author.Rules.{rules}
+use Rattle.capi.proofs.answers.put_flag.Goals as goal
+
+pub returns : goal.returns
+returns c = simp c.flag_word.ensures

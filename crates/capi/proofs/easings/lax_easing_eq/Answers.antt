@@ -1,0 +1,21 @@
+-- `lax_easing_eq` meets its contract, by what its callees ensure. Assumes nothing.
+use mathlib.Core.Path.{◌∙◌}
+use Rattle.capi.specs.Easings.{equality_in, lax_easing_eq}
+use borrow.Author.Rules.{rules}
+use Rattle.capi.proofs.easings.lax_easing_eq.Goals as goal
+
+pub returns-in_default : goal.returns-in_default
+unfolding lax_easing_eq equality_in
+returns-in_default c = simp (← (rw c.easing_in.ensures at c.easing_of.ensures), c.in_default.is)
+
+pub returns-in_default-easing_of : goal.returns-in_default-easing_of
+unfolding lax_easing_eq equality_in
+returns-in_default-easing_of c = simp (← (rw c.easing_in.ensures at c.easing_of.ensures), c.in-Known.is, ← (rw c.easing_in-2.ensures at c.easing_of-2.ensures), c.in_default-easing_of.is)
+
+pub returns-in-Equal : goal.returns-in-Equal
+unfolding lax_easing_eq equality_in
+returns-in-Equal c = c.put_flag.ensures ∙ simp (← (rw c.easing_in.ensures at c.easing_of.ensures), c.in-Known.is, ← (rw c.easing_in-2.ensures at c.easing_of-2.ensures), c.in-Known-easing_of.is, ← c.eq.ensures, c.in-Equal.is)
+
+pub returns-in-Refused : goal.returns-in-Refused
+unfolding lax_easing_eq equality_in
+returns-in-Refused c = simp (← (rw c.easing_in.ensures at c.easing_of.ensures), c.in-Known.is, ← (rw c.easing_in-2.ensures at c.easing_of-2.ensures), c.in-Known-easing_of.is, ← c.eq.ensures, c.in-Refused.is, c.number.ensures)

@@ -1,0 +1,6 @@
+-- `lax_track_push_eased` meets its contract, by what its callees ensure. Assumes nothing.
+use borrow.Author.Rules.{rules}
+use Rattle.capi.proofs.tracks.lax_track_push_eased.Goals as goal
+
+pub returns : goal.returns
+returns c = rw (c.bits-2.ensures, c.bits.ensures) at c.push_row.ensures

@@ -1,0 +1,13 @@
+-- `value_in` meets its contract, by what its callees ensure. Assumes nothing.
+use mathlib.Core.Path.{◌∙◌}
+use Rattle.capi.specs.Tweens.{lax_tween_value}
+use borrow.Author.Rules.{rules}
+use Rattle.capi.proofs.tweens.value_in.Goals as goal
+
+pub returns-in-Known : goal.returns-in-Known
+unfolding lax_tween_value
+returns-in-Known c = c.put_found.ensures ∙ simp (← c.tween_in.ensures, ← c.tween_of.ensures, c.in-Known.is, c.value.ensures)
+
+pub returns-in-Unknown : goal.returns-in-Unknown
+unfolding lax_tween_value
+returns-in-Unknown c = simp (← c.tween_in.ensures, ← c.tween_of.ensures, c.in-Unknown.is)
