@@ -1,5 +1,4 @@
 -- `outcome_number` meets its contract, by what its callees ensure. Assumes nothing.
-use borrow.Author.Rules.{rules}
 use Rattle.capi.proofs.answers.outcome_number.Goals as goal
 
 pub returns-in-Finished : goal.returns-in-Finished

@@ -1,5 +1,4 @@
 -- `put_flag` meets its contract, by what its callees ensure. Assumes nothing.
-use borrow.Author.Rules.{rules}
 use Rattle.capi.proofs.answers.put_flag.Goals as goal
 
 pub returns : goal.returns

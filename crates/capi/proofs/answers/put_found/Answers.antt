@@ -1,6 +1,5 @@
 -- `put_found` meets its contract, by what its callees ensure. Assumes nothing.
 use Rattle.capi.specs.Answers.{found_in}
-use borrow.Author.Rules.{rules}
 use Rattle.capi.proofs.answers.put_found.Goals as goal
 
 pub returns-in-Value : goal.returns-in-Value

@@ -1,5 +1,4 @@
 -- `put_plain` meets its contract, by what its callees ensure. Assumes nothing.
-use borrow.Author.Rules.{rules}
 use Rattle.capi.proofs.answers.put_plain.Goals as goal
 
 pub returns : goal.returns

@@ -1,6 +1,5 @@
 -- `put_progress` meets its contract, by what its callees ensure. Assumes nothing.
 use Rattle.capi.specs.Answers.{progress_in}
-use borrow.Author.Rules.{rules}
 use Rattle.capi.proofs.answers.put_progress.Goals as goal
 
 pub returns-in-Progress : goal.returns-in-Progress

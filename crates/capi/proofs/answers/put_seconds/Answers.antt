@@ -1,6 +1,5 @@
 -- `put_seconds` meets its contract, by what its callees ensure. Assumes nothing.
 use Rattle.capi.specs.Answers.{seconds_in}
-use borrow.Author.Rules.{rules}
 use Rattle.capi.proofs.answers.put_seconds.Goals as goal
 
 pub returns-in-Seconds : goal.returns-in-Seconds

@@ -1,6 +1,5 @@
 -- `put_snapshot` meets its contract, by what its callees ensure. Assumes nothing.
 use Rattle.capi.specs.Tweens.{snapshot_in}
-use borrow.Author.Rules.{rules}
 use Rattle.capi.proofs.answers.put_snapshot.Goals as goal
 
 pub returns-in-Snapshot : goal.returns-in-Snapshot

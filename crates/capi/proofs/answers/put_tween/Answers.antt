@@ -1,6 +1,5 @@
 -- `put_tween` meets its contract, by what its callees ensure. Assumes nothing.
 use Rattle.capi.specs.Tweens.{changed_in}
-use borrow.Author.Rules.{rules}
 use Rattle.capi.proofs.answers.put_tween.Goals as goal
 
 pub returns-in-Done : goal.returns-in-Done

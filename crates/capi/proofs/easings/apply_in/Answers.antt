@@ -1,7 +1,6 @@
 -- `apply_in` meets its contract, by what its callees ensure. Assumes nothing.
 use mathlib.Core.Path.{◌∙◌}
 use Rattle.capi.specs.Easings.{lax_easing_apply}
-use borrow.Author.Rules.{rules}
 use Rattle.capi.proofs.easings.apply_in.Goals as goal
 
 pub returns-in-Known : goal.returns-in-Known

@@ -1,7 +1,6 @@
 -- `lax_easing_eq` meets its contract, by what its callees ensure. Assumes nothing.
 use mathlib.Core.Path.{◌∙◌}
 use Rattle.capi.specs.Easings.{equality_in, lax_easing_eq}
-use borrow.Author.Rules.{rules}
 use Rattle.capi.proofs.easings.lax_easing_eq.Goals as goal
 
 pub returns-in_default : goal.returns-in_default

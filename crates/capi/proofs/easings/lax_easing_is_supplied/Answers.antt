@@ -1,7 +1,6 @@
 -- `lax_easing_is_supplied` meets its contract, by what its callees ensure. Assumes nothing.
 use mathlib.Core.Path.{◌∙◌}
 use Rattle.capi.specs.Easings.{lax_easing_is_supplied}
-use borrow.Author.Rules.{rules}
 use Rattle.capi.proofs.easings.lax_easing_is_supplied.Goals as goal
 
 pub returns-in-Known : goal.returns-in-Known

@@ -1,7 +1,6 @@
 -- `lax_easing_named` meets its contract, by what its callees ensure. Assumes nothing.
 use borrow.Author.Tests.{lt-ltb, le-ltb}
 use Rattle.capi.specs.Easings.{lax_easing_named}
-use borrow.Author.Rules.{rules}
 use Rattle.capi.proofs.easings.lax_easing_named.Goals as goal
 
 pub returns-then-place-lt38 : goal.returns-then-place-lt38

@@ -1,7 +1,6 @@
 -- `event_in` meets its contract, by what its callees ensure. Assumes nothing.
 use borrow.Author.Tests.{ne_eqb}
 use Rattle.capi.specs.Logs.{event_in}
-use borrow.Author.Rules.{rules}
 use Rattle.capi.proofs.logs.event_in.Goals as goal
 
 pub returns-in-1 : goal.returns-in-1

@@ -1,6 +1,5 @@
 -- `put_length` meets its contract, by what its callees ensure. Assumes nothing.
 use Rattle.capi.specs.Logs.{length_in}
-use borrow.Author.Rules.{rules}
 use Rattle.capi.proofs.logs.put_length.Goals as goal
 
 pub returns-in-Written : goal.returns-in-Written

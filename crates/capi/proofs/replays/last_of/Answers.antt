@@ -1,7 +1,6 @@
 -- `last_of` meets its contract, by what its callees ensure. Assumes nothing.
 use borrow.Author.Tests.{lt-ltb, le-ltb, eq-eqb, ne_eqb}
 use Rattle.capi.specs.Replays.{last_from}
-use borrow.Author.Rules.{rules}
 use Rattle.capi.proofs.replays.last_of.Goals as goal
 
 pub returns-then-last-lt65536 : goal.returns-then-last-lt65536

@@ -2,12 +2,11 @@
 use mathlib.Core.Path.{refl, sym, ◌∙◌}
 use Rattle.capi.specs.Replays.{lax_replay}
 use Rattle.capi.proofs.Runs.{replayed-as}
-use borrow.Author.Rules.{rules}
 use Rattle.capi.proofs.replays.lax_log_replay.Goals as goal
 
 pub returns-in-Known : goal.returns-in-Known
 unfolding lax_replay
-returns-in-Known c = rw (sym (rw c.tween_in.ensures at c.tween_of.ensures) ∙ c.in-Known.is, ← c.within-sound.ensures) (replayed-as _ _ _ _ _ _ _ _ c.replay.ensures.answer c.put_replayed.ensures.number c.put_replayed.ensures.words.0 c.put_replayed.ensures.words.1 c.replay.ensures.list)
+returns-in-Known c = rw (sym (rw c.tween_in.ensures at c.tween_of.ensures) ∙ c.in-Known.is, ← c.within-sound.ensures) (replayed-as _ _ _ _ _ _ _ _ c.replay.ensures.answer c.put_replayed.ensures.number c.put_replayed.ensures.words c.put_replayed.ensures.place c.replay.ensures.list)
 
 pub returns-in-Unknown : goal.returns-in-Unknown
 unfolding lax_replay

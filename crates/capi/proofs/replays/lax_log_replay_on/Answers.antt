@@ -2,7 +2,6 @@
 use mathlib.Core.Path.{refl, sym, ◌∙◌}
 use Rattle.capi.specs.Replays.{lax_replay_on}
 use Rattle.capi.proofs.Runs.{replayed-as}
-use borrow.Author.Rules.{rules}
 use Rattle.capi.proofs.replays.lax_log_replay_on.Goals as goal
 
 pub returns-in_default : goal.returns-in_default
@@ -15,4 +14,4 @@ returns-in_default-last_of c = rw (sym (rw c.tween_in.ensures at c.tween_of.ensu
 
 pub returns : goal.returns
 unfolding lax_replay_on
-returns c = rw (sym (rw c.tween_in.ensures at c.tween_of.ensures) ∙ c.in-Known.is, sym c.last_of.ensures ∙ c.in-Known-last_of.is, ← c.within-sound.ensures) (replayed-as _ _ _ _ _ _ _ _ c.replay_on.ensures.answer c.put_replayed.ensures.number c.put_replayed.ensures.words.0 c.put_replayed.ensures.words.1 c.replay_on.ensures.list)
+returns c = rw (sym (rw c.tween_in.ensures at c.tween_of.ensures) ∙ c.in-Known.is, sym c.last_of.ensures ∙ c.in-Known-last_of.is, ← c.within-sound.ensures) (replayed-as _ _ _ _ _ _ _ _ c.replay_on.ensures.answer c.put_replayed.ensures.number c.put_replayed.ensures.words c.put_replayed.ensures.place c.replay_on.ensures.list)

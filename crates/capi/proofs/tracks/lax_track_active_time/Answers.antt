@@ -1,5 +1,4 @@
 -- `lax_track_active_time` meets its contract, by the two ways of the check. Assumes nothing.
-use borrow.Author.Rules.{rules}
 use mathlib.Core.Path.{sym, ap, ◌∙◌}
 use Rattle.capi.proofs.Tracked.{answered, both_place, stopped-active, active-is}
 use Rattle.capi.proofs.tracks.lax_track_active_time.Goals as goal

@@ -1,5 +1,4 @@
 -- `lax_track_is_complete` meets its contract, by the two ways of the check. Assumes nothing.
-use borrow.Author.Rules.{rules}
 use mathlib.Core.Path.{sym, ap, ◌∙◌}
 use Rattle.capi.proofs.Tracked.{answered, both_place, stopped-complete, complete-is}
 use Rattle.capi.proofs.tracks.lax_track_is_complete.Goals as goal

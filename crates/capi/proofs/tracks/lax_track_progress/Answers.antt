@@ -1,5 +1,4 @@
 -- `lax_track_progress` meets its contract, by the two ways of the check. Assumes nothing.
-use borrow.Author.Rules.{rules}
 use mathlib.Core.Path.{sym, ap, ◌∙◌}
 use Rattle.capi.proofs.Tracked.{answered, both_place, stopped-progress, progress-is}
 use Rattle.capi.proofs.tracks.lax_track_progress.Goals as goal

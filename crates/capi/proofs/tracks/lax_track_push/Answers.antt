@@ -1,5 +1,4 @@
 -- `lax_track_push` meets its contract, by what its callees ensure. Assumes nothing.
-use borrow.Author.Rules.{rules}
 use Rattle.capi.proofs.tracks.lax_track_push.Goals as goal
 
 pub returns : goal.returns

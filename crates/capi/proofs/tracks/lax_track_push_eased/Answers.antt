@@ -1,5 +1,4 @@
 -- `lax_track_push_eased` meets its contract, by what its callees ensure. Assumes nothing.
-use borrow.Author.Rules.{rules}
 use Rattle.capi.proofs.tracks.lax_track_push_eased.Goals as goal
 
 pub returns : goal.returns

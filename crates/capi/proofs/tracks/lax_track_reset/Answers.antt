@@ -1,5 +1,4 @@
 -- `lax_track_reset` meets its contract, by the two ways of the check. Assumes nothing.
-use borrow.Author.Rules.{rules}
 use mathlib.Core.Path.{sym, ap, ◌∙◌}
 use lib.Ieee.{of_bits}
 use Rattle.capi.proofs.Tracked.{answered, both_words, stopped-reset, reset-is}

@@ -1,6 +1,5 @@
 -- `lax_track_update` meets its contract, by what the clock makes of the step. Assumes nothing.
-use borrow.Author.Rules.{rules}
-use mathlib.Core.Path.{sym, ap, ◌∙◌}
+use mathlib.Core.Path.{sym, ◌∙◌}
 use Rattle.capi.proofs.Tracked.{three, stopped-update, update-is, update-not}
 use Rattle.capi.proofs.tracks.lax_track_update.Goals as goal
 

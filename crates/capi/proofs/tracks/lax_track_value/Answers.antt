@@ -1,5 +1,4 @@
 -- `lax_track_value` meets its contract, by its outcome. Assumes nothing.
-use borrow.Author.Rules.{rules}
 use mathlib.Core.Path.{◌≡◌, sym, ap, ◌∙◌}
 use Rattle.keyframe.specs.Playback.{active_of}
 use Rattle.keyframe.specs.Inner.{sample_outcome}

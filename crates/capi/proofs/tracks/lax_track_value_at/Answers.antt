@@ -1,5 +1,4 @@
 -- `lax_track_value_at` meets its contract, by its outcome. Assumes nothing.
-use borrow.Author.Rules.{rules}
 use mathlib.Core.Path.{◌≡◌, sym, ap, ◌∙◌}
 use Rattle.keyframe.specs.Inner.{sample_outcome}
 use Rattle.keyframe.proofs.Refusals.{sample-some}

@@ -1,5 +1,4 @@
 -- `lax_track_values_at` meets its contract, by its outcome. Assumes nothing.
-use borrow.Author.Rules.{rules}
 use mathlib.Core.Path.{◌≡◌, sym, ◌∙◌}
 use lib.ListN.{length}
 use Rattle.keyframe.specs.Inner.{fill_outcome}

@@ -1,7 +1,5 @@
 -- `lax_tween_new` meets its contract, by what its callees ensure. Assumes nothing.
 use Rattle.capi.specs.Tweens.{lax_tween_new}
-use Rattle.words.specs.Kinds.{easing_words}
-use borrow.Author.Rules.{rules}
 use Rattle.capi.proofs.tweens.lax_tween_new.Goals as goal
 
 pub returns : goal.returns

@@ -2,12 +2,11 @@
 use mathlib.Core.Path.{refl, sym, ◌∙◌}
 use Rattle.capi.specs.Tweens.{lax_tween_run}
 use Rattle.capi.proofs.Runs.{ran-as}
-use borrow.Author.Rules.{rules}
 use Rattle.capi.proofs.tweens.lax_tween_run.Goals as goal
 
 pub returns-in-Known : goal.returns-in-Known
 unfolding lax_tween_run
-returns-in-Known c = rw (sym (rw c.tween_in.ensures at c.tween_of.ensures) ∙ c.in-Known.is) (ran-as _ _ _ _ _ _ _ _ c.run_steps.ensures.answer c.put_run.ensures.number c.put_run.ensures.words.0 c.put_run.ensures.words.1 c.run_steps.ensures.value.0 c.run_steps.ensures.value.1)
+returns-in-Known c = rw (sym (rw c.tween_in.ensures at c.tween_of.ensures) ∙ c.in-Known.is) (ran-as _ _ _ _ _ _ _ _ c.run_steps.ensures.answer c.put_run.ensures.number c.put_run.ensures.words c.put_run.ensures.counts c.run_steps.ensures.value c.run_steps.ensures.fold)
 
 pub returns-in-Unknown : goal.returns-in-Unknown
 unfolding lax_tween_run

@@ -1,7 +1,6 @@
 -- `lax_tween_snapshot` meets its contract, by what its callees ensure. Assumes nothing.
 use mathlib.Core.Path.{◌∙◌}
 use Rattle.capi.specs.Tweens.{lax_tween_snapshot}
-use borrow.Author.Rules.{rules}
 use Rattle.capi.proofs.tweens.lax_tween_snapshot.Goals as goal
 
 pub returns-in-Known : goal.returns-in-Known

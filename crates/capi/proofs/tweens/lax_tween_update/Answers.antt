@@ -2,7 +2,6 @@
 use mathlib.Core.Path.{subst}
 use Rattle.tween_words.specs.Stepping.{StepsTo}
 use Rattle.capi.proofs.Quick.{stepped, unsure}
-use borrow.Author.Rules.{rules}
 use Rattle.capi.proofs.tweens.lax_tween_update.Goals as goal
 
 pub returns-in-Ran : goal.returns-in-Ran

@@ -1,6 +1,5 @@
 -- `update_in` meets its contract, by what its callees ensure. Assumes nothing.
 use Rattle.capi.specs.Tweens.{updated_in, lax_tween_update}
-use borrow.Author.Rules.{rules}
 use Rattle.capi.proofs.tweens.update_in.Goals as goal
 
 pub returns-in-Ran : goal.returns-in-Ran

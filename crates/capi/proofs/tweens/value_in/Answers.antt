@@ -1,7 +1,6 @@
 -- `value_in` meets its contract, by what its callees ensure. Assumes nothing.
 use mathlib.Core.Path.{◌∙◌}
 use Rattle.capi.specs.Tweens.{lax_tween_value}
-use borrow.Author.Rules.{rules}
 use Rattle.capi.proofs.tweens.value_in.Goals as goal
 
 pub returns-in-Known : goal.returns-in-Known
