@@ -19,8 +19,7 @@ fn apply_in(e: &[u32; 6], t: f32, out: &mut [u32; 4]) -> u32
     }
 }
 
-#[unsafe(no_mangle)]
-pub extern "C" fn lax_easing_apply(e: &[u32; 6], t: f32, out: &mut [u32; 4]) -> u32
+pub fn lax_easing_apply(e: &[u32; 6], t: f32, out: &mut [u32; 4]) -> u32
     ensures { answering result out.new ≡ lax_easing_apply e.now t out.old }
 {
     if math::is_nan(t) {
@@ -36,8 +35,7 @@ pub extern "C" fn lax_easing_apply(e: &[u32; 6], t: f32, out: &mut [u32; 4]) -> 
     apply_in(e, t, out)
 }
 
-#[unsafe(no_mangle)]
-pub extern "C" fn lax_easing_eq(x: &[u32; 6], y: &[u32; 6], out: &mut u32) -> u32
+pub fn lax_easing_eq(x: &[u32; 6], y: &[u32; 6], out: &mut u32) -> u32
     ensures { answering result out.new ≡ lax_easing_eq x.now y.now out.old }
 {
     let EasingRead::Known(left) = easing_of(easing_in(x)) else {
@@ -52,8 +50,7 @@ pub extern "C" fn lax_easing_eq(x: &[u32; 6], y: &[u32; 6], out: &mut u32) -> u3
     }
 }
 
-#[unsafe(no_mangle)]
-pub extern "C" fn lax_easing_is_supplied(e: &[u32; 6], out: &mut u32) -> u32
+pub fn lax_easing_is_supplied(e: &[u32; 6], out: &mut u32) -> u32
     ensures { answering result out.new ≡ lax_easing_is_supplied e.now out.old }
 {
     match easing_of(easing_in(e)) {
@@ -63,8 +60,7 @@ pub extern "C" fn lax_easing_is_supplied(e: &[u32; 6], out: &mut u32) -> u32
 }
 
 // The easing at a place of all_named, from 0 to 37, with the source's parameters.
-#[unsafe(no_mangle)]
-pub extern "C" fn lax_easing_named(place: u32, out: &mut [u32; 6]) -> u32
+pub fn lax_easing_named(place: u32, out: &mut [u32; 6]) -> u32
     ensures { answering result out.new ≡ lax_easing_named place out.old }
 {
     if place < 38 {

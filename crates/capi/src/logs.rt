@@ -39,8 +39,7 @@ fn put_length(logged: Logged, written: &mut usize) -> u32
     }
 }
 
-#[unsafe(no_mangle)]
-pub extern "C" fn lax_log_head(buffer: &mut [u8], written: &mut usize) -> u32
+pub fn lax_log_head(buffer: &mut [u8], written: &mut usize) -> u32
     ensures answer { answering result written.new ≡ lax_log_head buffer.old written.old }
     ensures bytes { buffer.new ≡ (head_in buffer.old).buffer }
 {
@@ -48,8 +47,7 @@ pub extern "C" fn lax_log_head(buffer: &mut [u8], written: &mut usize) -> u32
 }
 
 // written: how long the log is, before and after.
-#[unsafe(no_mangle)]
-pub extern "C" fn lax_log_record(buffer: &mut [u8], written: &mut usize, event: &[u32; 2]) -> u32
+pub fn lax_log_record(buffer: &mut [u8], written: &mut usize, event: &[u32; 2]) -> u32
     ensures answer { answering result written.new ≡ lax_log_record buffer.old written.old event.now }
     ensures bytes { buffer.new ≡ lax_log_buffer buffer.old written.old event.now }
 {

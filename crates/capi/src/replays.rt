@@ -70,8 +70,7 @@ fn put_replayed(sound: bool, replayed: Replayed, w: &mut [u32; 18], reached: &mu
     number
 }
 
-#[unsafe(no_mangle)]
-pub extern "C" fn lax_log_replay(
+pub fn lax_log_replay(
     w: &mut [u32; 18],
     log: &[u8],
     gaps: &mut [u16],
@@ -88,8 +87,7 @@ pub extern "C" fn lax_log_replay(
     }
 }
 
-#[unsafe(no_mangle)]
-pub extern "C" fn lax_log_replay_on(
+pub fn lax_log_replay_on(
     w: &mut [u32; 18],
     records: &[u8],
     gaps: &mut [u16],

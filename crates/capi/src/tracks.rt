@@ -8,8 +8,7 @@ use keyframe::{Clock, Outcome, Ticked};
 use track_words::check;
 use words::{FrameRead, LoopRead, flag_word, frame_in, loop_in, loop_of, read_frame};
 
-#[unsafe(no_mangle)]
-pub extern "C" fn lax_track_new(w: &mut [u32; 518]) -> u32
+pub fn lax_track_new(w: &mut [u32; 518]) -> u32
     ensures number { result ≡ 0 }
     ensures words { w.new ≡ lax_track_new }
 {
@@ -17,8 +16,7 @@ pub extern "C" fn lax_track_new(w: &mut [u32; 518]) -> u32
     0
 }
 
-#[unsafe(no_mangle)]
-pub extern "C" fn lax_track_looping(w: &mut [u32; 518], mode: &[u32; 2]) -> u32
+pub fn lax_track_looping(w: &mut [u32; 518], mode: &[u32; 2]) -> u32
     ensures number { result ≡ (lax_track_looping w.old mode.now).number }
     ensures words { w.new ≡ (lax_track_looping w.old mode.now).left }
 {
@@ -41,8 +39,7 @@ pub extern "C" fn lax_track_looping(w: &mut [u32; 518], mode: &[u32; 2]) -> u32
     0
 }
 
-#[unsafe(no_mangle)]
-pub extern "C" fn lax_track_value_at(w: &[u32; 518], secs: f32, out: &mut [u32; 4]) -> u32
+pub fn lax_track_value_at(w: &[u32; 518], secs: f32, out: &mut [u32; 4]) -> u32
     ensures number { result ≡ (lax_track_value_at w.now secs out.old).number }
     ensures words { out.new ≡ (lax_track_value_at w.now secs out.old).left }
 {
@@ -57,8 +54,7 @@ pub extern "C" fn lax_track_value_at(w: &[u32; 518], secs: f32, out: &mut [u32; 
     0
 }
 
-#[unsafe(no_mangle)]
-pub extern "C" fn lax_track_value(w: &[u32; 518], out: &mut [u32; 4]) -> u32
+pub fn lax_track_value(w: &[u32; 518], out: &mut [u32; 4]) -> u32
     ensures number { result ≡ (lax_track_value w.now out.old).number }
     ensures words { out.new ≡ (lax_track_value w.now out.old).left }
 {
@@ -73,8 +69,7 @@ pub extern "C" fn lax_track_value(w: &[u32; 518], out: &mut [u32; 4]) -> u32
     0
 }
 
-#[unsafe(no_mangle)]
-pub extern "C" fn lax_track_active_time(w: &[u32; 518], out: &mut f32) -> u32
+pub fn lax_track_active_time(w: &[u32; 518], out: &mut f32) -> u32
     ensures number { result ≡ (lax_track_active_time w.now out.old).number }
     ensures place { out.new ≡ (lax_track_active_time w.now out.old).left }
 {
@@ -86,8 +81,7 @@ pub extern "C" fn lax_track_active_time(w: &[u32; 518], out: &mut f32) -> u32
     0
 }
 
-#[unsafe(no_mangle)]
-pub extern "C" fn lax_track_duration(w: &[u32; 518], out: &mut f32) -> u32
+pub fn lax_track_duration(w: &[u32; 518], out: &mut f32) -> u32
     ensures number { result ≡ (lax_track_duration w.now out.old).number }
     ensures place { out.new ≡ (lax_track_duration w.now out.old).left }
 {
@@ -99,8 +93,7 @@ pub extern "C" fn lax_track_duration(w: &[u32; 518], out: &mut f32) -> u32
     0
 }
 
-#[unsafe(no_mangle)]
-pub extern "C" fn lax_track_playback_duration(w: &[u32; 518], out: &mut f32) -> u32
+pub fn lax_track_playback_duration(w: &[u32; 518], out: &mut f32) -> u32
     ensures number { result ≡ (lax_track_playback_duration w.now out.old).number }
     ensures place { out.new ≡ (lax_track_playback_duration w.now out.old).left }
 {
@@ -112,8 +105,7 @@ pub extern "C" fn lax_track_playback_duration(w: &[u32; 518], out: &mut f32) -> 
     0
 }
 
-#[unsafe(no_mangle)]
-pub extern "C" fn lax_track_progress(w: &[u32; 518], out: &mut f32) -> u32
+pub fn lax_track_progress(w: &[u32; 518], out: &mut f32) -> u32
     ensures number { result ≡ (lax_track_progress w.now out.old).number }
     ensures place { out.new ≡ (lax_track_progress w.now out.old).left }
 {
@@ -125,8 +117,7 @@ pub extern "C" fn lax_track_progress(w: &[u32; 518], out: &mut f32) -> u32
     0
 }
 
-#[unsafe(no_mangle)]
-pub extern "C" fn lax_track_is_complete(w: &[u32; 518], out: &mut u32) -> u32
+pub fn lax_track_is_complete(w: &[u32; 518], out: &mut u32) -> u32
     ensures number { result ≡ (lax_track_is_complete w.now out.old).number }
     ensures place { out.new ≡ (lax_track_is_complete w.now out.old).left }
 {
@@ -138,8 +129,7 @@ pub extern "C" fn lax_track_is_complete(w: &[u32; 518], out: &mut u32) -> u32
     0
 }
 
-#[unsafe(no_mangle)]
-pub extern "C" fn lax_track_reset(w: &mut [u32; 518]) -> u32
+pub fn lax_track_reset(w: &mut [u32; 518]) -> u32
     ensures number { result ≡ (lax_track_reset w.old).number }
     ensures words { w.new ≡ (lax_track_reset w.old).left }
 {
@@ -151,8 +141,7 @@ pub extern "C" fn lax_track_reset(w: &mut [u32; 518]) -> u32
     0
 }
 
-#[unsafe(no_mangle)]
-pub extern "C" fn lax_track_seek_to(w: &mut [u32; 518], p: f32) -> u32
+pub fn lax_track_seek_to(w: &mut [u32; 518], p: f32) -> u32
     ensures number { result ≡ (lax_track_seek_to w.old p).number }
     ensures words { w.new ≡ (lax_track_seek_to w.old p).left }
 {
@@ -169,8 +158,7 @@ pub extern "C" fn lax_track_seek_to(w: &mut [u32; 518], p: f32) -> u32
 }
 
 // running: 1 where the track is not complete, and has two frames or more.
-#[unsafe(no_mangle)]
-pub extern "C" fn lax_track_update(w: &mut [u32; 518], step: f32, out: &mut u32) -> u32
+pub fn lax_track_update(w: &mut [u32; 518], step: f32, out: &mut u32) -> u32
     ensures number { result ≡ (lax_track_update w.old step out.old).number }
     ensures words { w.new ≡ (lax_track_update w.old step out.old).left.words }
     ensures place { out.new ≡ (lax_track_update w.old step out.old).left.running }
@@ -214,8 +202,7 @@ fn push_row(w: &mut [u32; 518], row: &[u32; 8]) -> u32
     0
 }
 
-#[unsafe(no_mangle)]
-pub extern "C" fn lax_track_push(w: &mut [u32; 518], time: f32, value: f32) -> u32
+pub fn lax_track_push(w: &mut [u32; 518], time: f32, value: f32) -> u32
     ensures number { result ≡ (lax_track_push w.old (plain_row time value)).number }
     ensures words { w.new ≡ (lax_track_push w.old (plain_row time value)).left }
 {
@@ -223,13 +210,7 @@ pub extern "C" fn lax_track_push(w: &mut [u32; 518], time: f32, value: f32) -> u
     push_row(w, &row)
 }
 
-#[unsafe(no_mangle)]
-pub extern "C" fn lax_track_push_eased(
-    w: &mut [u32; 518],
-    time: f32,
-    value: f32,
-    e: &[u32; 6],
-) -> u32
+pub fn lax_track_push_eased(w: &mut [u32; 518], time: f32, value: f32, e: &[u32; 6]) -> u32
     ensures number { result ≡ (lax_track_push w.old (eased_row time value e.now)).number }
     ensures words { w.new ≡ (lax_track_push w.old (eased_row time value e.now)).left }
 {
@@ -246,8 +227,7 @@ pub extern "C" fn lax_track_push_eased(
     push_row(w, &row)
 }
 
-#[unsafe(no_mangle)]
-pub extern "C" fn lax_track_push_frame(w: &mut [u32; 518], k: &[u32; 8]) -> u32
+pub fn lax_track_push_frame(w: &mut [u32; 518], k: &[u32; 8]) -> u32
     ensures number { result ≡ (lax_track_push w.old k.now).number }
     ensures words { w.new ≡ (lax_track_push w.old k.now).left }
 {
@@ -256,8 +236,7 @@ pub extern "C" fn lax_track_push_frame(w: &mut [u32; 518], k: &[u32; 8]) -> u32
 
 // The value at each time goes into the front of out. filled: how many were written, and how many of them
 // are not settled.
-#[unsafe(no_mangle)]
-pub extern "C" fn lax_track_values_at(
+pub fn lax_track_values_at(
     w: &[u32; 518],
     times: &[f32],
     out: &mut [f32],

@@ -15,8 +15,7 @@ use tween_words::{Stepped, Valued, step_on, value};
 use units::Progress;
 use words::{TweenRead, flag_word, store_tween, tween_in, tween_of, tween_words};
 
-#[unsafe(no_mangle)]
-pub extern "C" fn lax_tween_new(w: &mut [u32; 18], start: f32, end: f32) -> u32
+pub fn lax_tween_new(w: &mut [u32; 18], start: f32, end: f32) -> u32
     ensures { answering result w.new ≡ accepted (lax_tween_new start end) }
 {
     let t = tween_words(Tween::new(start, end));
@@ -55,8 +54,7 @@ fn value_in(w: &[u32; 18], out: &mut [u32; 4]) -> u32
     }
 }
 
-#[unsafe(no_mangle)]
-pub extern "C" fn lax_tween_value(w: &[u32; 18], out: &mut [u32; 4]) -> u32
+pub fn lax_tween_value(w: &[u32; 18], out: &mut [u32; 4]) -> u32
     ensures { answering result out.new ≡ lax_tween_value w.now out.old }
 {
     match value(w) {
@@ -66,8 +64,7 @@ pub extern "C" fn lax_tween_value(w: &[u32; 18], out: &mut [u32; 4]) -> u32
     }
 }
 
-#[unsafe(no_mangle)]
-pub extern "C" fn lax_tween_progress(w: &[u32; 18], out: &mut f32) -> u32
+pub fn lax_tween_progress(w: &[u32; 18], out: &mut f32) -> u32
     ensures { answering result out.new ≡ lax_tween_progress w.now out.old }
 {
     match tween_of(tween_in(w)) {
@@ -76,8 +73,7 @@ pub extern "C" fn lax_tween_progress(w: &[u32; 18], out: &mut f32) -> u32
     }
 }
 
-#[unsafe(no_mangle)]
-pub extern "C" fn lax_tween_eased_progress(w: &[u32; 18], out: &mut [u32; 4]) -> u32
+pub fn lax_tween_eased_progress(w: &[u32; 18], out: &mut [u32; 4]) -> u32
     ensures { answering result out.new ≡ lax_tween_eased_progress w.now out.old }
 {
     match tween_of(tween_in(w)) {
@@ -86,8 +82,7 @@ pub extern "C" fn lax_tween_eased_progress(w: &[u32; 18], out: &mut [u32; 4]) ->
     }
 }
 
-#[unsafe(no_mangle)]
-pub extern "C" fn lax_tween_snapshot(w: &[u32; 18], out: &mut [u32; 5]) -> u32
+pub fn lax_tween_snapshot(w: &[u32; 18], out: &mut [u32; 5]) -> u32
     ensures { answering result out.new ≡ lax_tween_snapshot w.now out.old }
 {
     match tween_of(tween_in(w)) {
@@ -96,8 +91,7 @@ pub extern "C" fn lax_tween_snapshot(w: &[u32; 18], out: &mut [u32; 5]) -> u32
     }
 }
 
-#[unsafe(no_mangle)]
-pub extern "C" fn lax_tween_playback_duration(w: &[u32; 18], out: &mut f32) -> u32
+pub fn lax_tween_playback_duration(w: &[u32; 18], out: &mut f32) -> u32
     ensures { answering result out.new ≡ lax_tween_playback_duration w.now out.old }
 {
     match tween_of(tween_in(w)) {
@@ -106,8 +100,7 @@ pub extern "C" fn lax_tween_playback_duration(w: &[u32; 18], out: &mut f32) -> u
     }
 }
 
-#[unsafe(no_mangle)]
-pub extern "C" fn lax_tween_reset(w: &mut [u32; 18]) -> u32
+pub fn lax_tween_reset(w: &mut [u32; 18]) -> u32
     ensures { answering result w.new ≡ lax_tween_reset w.old }
 {
     match tween_of(tween_in(w)) {
@@ -116,8 +109,7 @@ pub extern "C" fn lax_tween_reset(w: &mut [u32; 18]) -> u32
     }
 }
 
-#[unsafe(no_mangle)]
-pub extern "C" fn lax_tween_seek(w: &mut [u32; 18], p: f32) -> u32
+pub fn lax_tween_seek(w: &mut [u32; 18], p: f32) -> u32
     ensures { answering result w.new ≡ lax_tween_seek w.old p }
 {
     match tween_of(tween_in(w)) {
@@ -126,8 +118,7 @@ pub extern "C" fn lax_tween_seek(w: &mut [u32; 18], p: f32) -> u32
     }
 }
 
-#[unsafe(no_mangle)]
-pub extern "C" fn lax_tween_reverse(w: &mut [u32; 18]) -> u32
+pub fn lax_tween_reverse(w: &mut [u32; 18]) -> u32
     ensures { answering result w.new ≡ lax_tween_reverse w.old }
 {
     match tween_of(tween_in(w)) {
@@ -136,8 +127,7 @@ pub extern "C" fn lax_tween_reverse(w: &mut [u32; 18]) -> u32
     }
 }
 
-#[unsafe(no_mangle)]
-pub extern "C" fn lax_tween_pause(w: &mut [u32; 18]) -> u32
+pub fn lax_tween_pause(w: &mut [u32; 18]) -> u32
     ensures { answering result w.new ≡ lax_tween_pause w.old }
 {
     match tween_of(tween_in(w)) {
@@ -146,8 +136,7 @@ pub extern "C" fn lax_tween_pause(w: &mut [u32; 18]) -> u32
     }
 }
 
-#[unsafe(no_mangle)]
-pub extern "C" fn lax_tween_resume(w: &mut [u32; 18]) -> u32
+pub fn lax_tween_resume(w: &mut [u32; 18]) -> u32
     ensures { answering result w.new ≡ lax_tween_resume w.old }
 {
     match tween_of(tween_in(w)) {
@@ -178,8 +167,7 @@ fn update_in(w: &mut [u32; 18], step: f32, out: &mut [u32; 2]) -> u32
 }
 
 // out: the folds, and 1 where the tween is not completed.
-#[unsafe(no_mangle)]
-pub extern "C" fn lax_tween_update(w: &mut [u32; 18], step: f32, out: &mut [u32; 2]) -> u32
+pub fn lax_tween_update(w: &mut [u32; 18], step: f32, out: &mut [u32; 2]) -> u32
     ensures { answering result (record { words = w.new; out = out.new }) ≡ lax_tween_update w.old step out.old }
 {
     match step_on(w, step) {
@@ -212,8 +200,7 @@ fn put_run(run: Run, w: &mut [u32; 18], out: &mut [usize; 2]) -> u32
 
 // The value after each step and the folds of each go into the fronts of values and folds. out: how many
 // steps were taken, and how many of the values are not settled.
-#[unsafe(no_mangle)]
-pub extern "C" fn lax_tween_run(
+pub fn lax_tween_run(
     w: &mut [u32; 18],
     steps: &[f32],
     values: &mut [f32],
