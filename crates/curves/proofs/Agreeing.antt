@@ -212,9 +212,9 @@ steps-jump-start t n w l =
     let m = max n 1 in
     steps-are t w m (omega arith) (omega (arith, l)) ∙ ap (λ (k : ℕ). whole_f k ⊘ whole_f m) (start-step t w m (omega arith) (omega (arith, l)))
 
-pub steps-jump-end : StepsOnJumpEnd
+pub steps-on-jump-end : StepsOnJumpEnd
 unfolding jump_of
-steps-jump-end t n w l =
+steps-on-jump-end t n w l =
     let m = max n 1 in
     let s = steps-are t w m (omega arith) (omega (arith, l)) in
     let e = end_step t w m (omega arith) (omega (arith, l)) in (
