@@ -23,7 +23,7 @@ use Rattle.math.proofs.Ranges.{clamp-stays, within-at-most}
 use Rattle.curves.specs.declared.jumps.Position.TheVariants.{JumpStart, JumpEnd}
 use Rattle.curves.specs.Stairs.{stairs_of, is_whole}
 use Rattle.curves.specs.Jumps.{product_of, step_of, jump_of}
-use Rattle.curves.specs.Rising.{StepsJumpStart, StepsJumpEnd}
+use Rattle.curves.specs.Rising.{StepsJumpStart, StepsOnJumpEnd}
 use Rattle.curves.proofs.Products.{count-is, product, product-most}
 use Rattle.curves.proofs.Quotients.{quotient, step-within}
 use Rattle.curves.proofs.Rising.{zero-step}
@@ -212,9 +212,9 @@ steps-jump-start t n w l =
     let m = max n 1 in
     steps-are t w m (omega arith) (omega (arith, l)) ∙ ap (λ (k : ℕ). whole_f k ⊘ whole_f m) (start-step t w m (omega arith) (omega (arith, l)))
 
-pub steps-jump-end : StepsJumpEnd
+pub steps-on-jump-end : StepsOnJumpEnd
 unfolding jump_of
-steps-jump-end t n w l =
+steps-on-jump-end t n w l =
     let m = max n 1 in
     let s = steps-are t w m (omega arith) (omega (arith, l)) in
     let e = end_step t w m (omega arith) (omega (arith, l)) in (

@@ -58,8 +58,8 @@ abbrev pub StepsJumpStart : Type 0
 StepsJumpStart = (t : Float) (n : ℕ) → Within t → n ≤ 65536 → steps_of t n ≡ jump_of JumpStart true t (max n 1)
 
 -- "Where the rounded product t·n is whole and the flag is off, jump-end and `Steps` agree", bit for bit; document 01, "exactly where": elsewhere they are not equal
-abbrev pub StepsJumpEnd : Type 0
-StepsJumpEnd =
+abbrev pub StepsOnJumpEnd : Type 0
+StepsOnJumpEnd =
     (t : Float) (n : ℕ) → Within t → n ≤ 65536
     → (is_whole (product_of t (max n 1)) ≡ true → steps_of t n ≡ jump_of JumpEnd false t (max n 1))
     × (is_whole (product_of t (max n 1)) ≡ false → eq (steps_of t n) (jump_of JumpEnd false t (max n 1)) ≡ false)
