@@ -12,7 +12,7 @@
 //     repeat N      the record before is written N times more
 //
 // The whole script is read before LOG is opened. Where LOG is a pipe that nobody reads any more, nothing is
-// said of it. The last line is `end ok`, `end refused N` or
+// said, and there is no last line. Else the last line is `end ok`, `end refused N` or
 // `end unreadable`.
 #![tactic(auto)]
 
@@ -74,11 +74,12 @@ fn written(rt: &HostRuntime, text: &[u8]) {
     };
     let out = sink::write_log(&mut file, text);
     drop(file);
+    if out.unread {
+        return;
+    }
     if out.failed {
-        if !out.unread {
-            tools::say_argument(rt, STDERR_FILENO, 2);
-            say(STDERR_FILENO, b": the log can't be written\n");
-        }
+        tools::say_argument(rt, STDERR_FILENO, 2);
+        say(STDERR_FILENO, b": the log can't be written\n");
         tools::end_unreadable();
         return;
     }

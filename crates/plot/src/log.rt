@@ -80,10 +80,10 @@ fn draw_chunks(rt: &HostRuntime, file: &mut File, t: Tween, chunks: u64) {
         return;
     }
     let frame = frame_of(true, seen);
-    if file.seek(SeekFrom::Start(5)).is_err() {
+    let Ok(5) = file.seek(SeekFrom::Start(5)) else {
         unread(rt);
         return;
-    }
+    };
     let c = over_chunks(rt, file, chunks, start, frame, &mut table);
     if c.failed {
         end_unreadable();
