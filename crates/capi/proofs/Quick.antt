@@ -1,11 +1,11 @@
 -- What the common ways say is what the calls are to answer. Assumes nothing.
+use Rattle.std.specs.Prelude.{Ok}
 use Prim.Native.Nat.{ℕ}
 use mathlib.Core.Path.{◌≡◌, refl, subst}
 use mathlib.Core.Bool.{Bool}
 use mathlib.Core.List.{List, [], ◌∷◌}
 use lib.Ieee.{Float}
 use Rattle.bezier.specs.declared.types.Found.{Found}
-use Rattle.easing.specs.declared.answers.Eased.TheVariants.{Value}
 use Rattle.easing.specs.Apply.{apply_of}
 use Rattle.words.specs.Kinds.{easing_from}
 use Rattle.words.specs.Modes.{flag_word}
@@ -18,11 +18,11 @@ use Rattle.capi.specs.Answers.{Answer, accepted, found_in}
 use Rattle.capi.specs.Easings.{lax_easing_apply}
 use Rattle.capi.specs.Tweens.{lax_tween_value, Stepping, updated_in, lax_tween_update}
 
-pub applied : (ws : List ℕ) (t : Float) (out : List ℕ) (f : Found) → Holds (easing_at ws 0) × (apply_of (easing_in (easing_from (easing_at ws 0))) t ≡ Value f) → found_in out (Value f) ≡ lax_easing_apply ws t out
+pub applied : (ws : List ℕ) (t : Float) (out : List ℕ) (f : Found) → Holds (easing_at ws 0) × (apply_of (easing_in (easing_from (easing_at ws 0))) t ≡ Ok f) → found_in out (Ok f) ≡ lax_easing_apply ws t out
 unfolding lax_easing_apply
 applied ws t out f h = rw (h.0.known, h.1) refl
 
-pub valued : (ws out : List ℕ) (f : Found) → Values ws f → found_in out (Value f) ≡ lax_tween_value ws out
+pub valued : (ws out : List ℕ) (f : Found) → Values ws f → found_in out (Ok f) ≡ lax_tween_value ws out
 unfolding lax_tween_value
 valued ws out f h = rw (h.read, h.value) refl
 

@@ -1,4 +1,5 @@
 -- The ways of the calls of a track: its words do not pass the check, and the number is the check's; or they do, and the answer is the track's. Assumes nothing.
+use Rattle.std.specs.Prelude.{Err, None, Ok, Result, Some, ⊤}
 use Prim.Native.Nat.{ℕ}
 use mathlib.Core.Path.{◌≡◌, refl, sym, ap, ◌∙◌}
 use mathlib.Core.Bool.{Bool, true, false, cond, not}
@@ -19,10 +20,7 @@ use Rattle.frames.specs.Sampling.{filled_of, sample_of, unsettled_of}
 use Rattle.keyframe.specs.declared.types.Clock.{Clock}
 use Rattle.keyframe.specs.declared.types.Changed.{Changed}
 use Rattle.keyframe.specs.declared.types.Filled.{Filled}
-use Rattle.keyframe.specs.declared.types.Outcome.{Outcome}
-use Rattle.keyframe.specs.declared.types.Outcome.TheVariants as outcome
 use Rattle.keyframe.specs.declared.types.Ticked.{Ticked}
-use Rattle.keyframe.specs.declared.types.Ticked.TheVariants as ticked
 use Rattle.keyframe.specs.declared.types.Track.{Track}
 use Rattle.keyframe.specs.Batch.{batch_answer, batch_count, batch_number, batch_out, batch_unsettled, none_filled}
 use Rattle.keyframe.specs.Clock.{clock_in, clock_of, seek_of, tick_of, ticked_in, with_clock}
@@ -35,8 +33,6 @@ use Rattle.keyframe.specs.Inner.{fill_outcome, looping_outcome, push_outcome, ro
 use Rattle.keyframe.proofs.Batches as batch
 use Rattle.keyframe.proofs.Refusals.{changed_by, fill-by, fill-number, looping-by, number_by, push-by, push-taken, sample-by, sampled_by, seek-by}
 use Rattle.keyframe.proofs.Ticks.{sought-clock, update-ticked}
-use Rattle.words.specs.declared.modes.LoopRead.TheVariants as mode
-use Rattle.words.specs.declared.tracks.FrameRead.TheVariants as frame
 use Rattle.words.specs.Kinds.{is_kind}
 use Rattle.words.specs.Lent.{word_at, float_at, frame_at, loop_at, track_in, clock_into}
 use Rattle.words.specs.Modes.{loop_from, flag_word}
@@ -126,9 +122,9 @@ module _ (words : List ℕ) (n : ℕ) (number : n ≡ check_of words) (some : n 
   unfolding lax_track_values_at filled_in batch_out batch_count batch_unsettled batch_number
   stopped-values times out filled = stopped (filling out filled) (λ t. filled_in (filling out filled) (batch_out t times out) (batch_answer t times out)) (λ t e. rw e refl)
 
-  pub stopped-looping : (m : List ℕ) (l : Loop) → loop_from (loop_at m 0) ≡ mode.Known l → answered n words ≡ lax_track_looping words m
+  pub stopped-looping : (m : List ℕ) (l : Loop) → loop_from (loop_at m 0) ≡ Some l → answered n words ≡ lax_track_looping words m
   unfolding lax_track_looping looping_of
-  stopped-looping m l k = rw k (stopped words (looped words m (mode.Known l)) (λ t e. rw e refl))
+  stopped-looping m l k = rw k (stopped words (looped words m (Some l)) (λ t e. rw e refl))
 
 -- words that pass
 module _ (words : List ℕ) (fine : check_of words ≡ 0) where
@@ -140,17 +136,17 @@ module _ (words : List ℕ) (fine : check_of words ≡ 0) where
 
   -- a sample, by its outcome
   module _ (secs : Float) (out : List ℕ) where
-    value-by : (o : Outcome) → o ≡ sample_outcome (word_at words 512) → found_in out (sampled_by (sample_of (frames_in (track_of words)) secs) o) ≡ lax_track_value_at words secs out
+    value-by : (o : Result ⊤ Refusal) → o ≡ sample_outcome (word_at words 512) → found_in out (sampled_by (sample_of (frames_in (track_of words)) secs) o) ≡ lax_track_value_at words secs out
     unfolding lax_track_value_at track_from track_in
     value-by o e = ap (found_in out) (sample-by (track_of words) within secs o e) ∙ sym (went out (λ t. found_in out (value_at_of t secs)))
 
-    pub value_not : (r : Refusal) → outcome.Refused r ≡ sample_outcome (word_at words 512) → refused out r ≡ lax_track_value_at words secs out
+    pub value_not : (r : Refusal) → Err r ≡ sample_outcome (word_at words 512) → refused out r ≡ lax_track_value_at words secs out
     unfolding found_in
-    value_not r e = value-by (outcome.Refused r) e
+    value_not r e = value-by (Err r) e
 
-    pub value-is : outcome.Done ≡ sample_outcome (word_at words 512) → accepted (found_words (sample_of (frames_in (track_of words)) secs)) ≡ lax_track_value_at words secs out
+    pub value-is : Ok tt ≡ sample_outcome (word_at words 512) → accepted (found_words (sample_of (frames_in (track_of words)) secs)) ≡ lax_track_value_at words secs out
     unfolding found_in
-    value-is e = value-by outcome.Done e
+    value-is e = value-by Ok tt e
 
   module _ (out : List ℕ) where
     pub now-is : lax_track_value_at words (active_of (track_of words)) out ≡ lax_track_value words out
@@ -189,41 +185,41 @@ module _ (words : List ℕ) (fine : check_of words ≡ 0) where
 
   -- a seek, by its outcome
   module _ (p : Float) where
-    sought-by : (o : Outcome) → o ≡ seek_outcome p
+    sought-by : (o : Result ⊤ Refusal) → o ≡ seek_outcome p
         → moved_in words (changed_by (track_of words) (changed (sought_of (end_of (track_of words).looping (base_of (track_of words))) (track_of words) (clamp01_of p))) o) ≡ lax_track_seek_to words p
     unfolding lax_track_seek_to
     sought-by o e = ap (moved_in words) (seek-by (track_of words) within p o e) ∙ sym (went words (λ t. moved_in words (seek_to_of t p)))
 
-    pub seek-not : (r : Refusal) → outcome.Refused r ≡ seek_outcome p → refused words r ≡ lax_track_seek_to words p
+    pub seek-not : (r : Refusal) → Err r ≡ seek_outcome p → refused words r ≡ lax_track_seek_to words p
     unfolding moved_in
-    seek-not r e = sought-by (outcome.Refused r) e
+    seek-not r e = sought-by (Err r) e
 
-    pub seek_is : outcome.Done ≡ seek_outcome p → accepted (clock_into words (seek_of (end_of (track_of words).looping (base_of (track_of words))) (base_of (track_of words)) (clamp01_of p))) ≡ lax_track_seek_to words p
+    pub seek_is : Ok tt ≡ seek_outcome p → accepted (clock_into words (seek_of (end_of (track_of words).looping (base_of (track_of words))) (base_of (track_of words)) (clamp01_of p))) ≡ lax_track_seek_to words p
     unfolding moved_in
     seek_is e =
         let t = track_of words in
         ap accepted (stored (seek_of (end_of t.looping (base_of t)) (base_of t) (clamp01_of p)) ∙ ap (λ (u : Track). clock_into words (clock_in u)) (sought-clock t (end_of t.looping (base_of t)) (clamp01_of p)))
-        ∙ sought-by outcome.Done e
+        ∙ sought-by Ok tt e
 
   -- a step, by what the clock makes of it
   module _ (step : Float) (out : ℕ) where
-    abbrev ticks : Ticked
+    abbrev ticks : Result Ticked Refusal
     ticks = tick_of (track_of words).count (base_of (track_of words)) (track_of words).looping (clock_in (track_of words)) step
 
-    by-tick : (k : Ticked) → k ≡ tick_of (track_of words).count (base_of (track_of words)) (track_of words).looping (clock_in (track_of words)) step → stepped_in (stepping words out) (ticked_in (track_of words) k) ≡ lax_track_update words step out
+    by-tick : (k : Result Ticked Refusal) → k ≡ tick_of (track_of words).count (base_of (track_of words)) (track_of words).looping (clock_in (track_of words)) step → stepped_in (stepping words out) (ticked_in (track_of words) k) ≡ lax_track_update words step out
     unfolding lax_track_update
     by-tick k e =
-        ap (λ (y : Ticked). stepped_in (stepping words out) (ticked_in (track_of words) y)) e
+        ap (λ (y : Result Ticked Refusal). stepped_in (stepping words out) (ticked_in (track_of words) y)) e
         ∙ (ap (stepped_in (stepping words out)) (update-ticked (track_of words) step within) ∙ sym (went (stepping words out) (λ t. stepped_in (stepping words out) (update_of t step))))
 
-    pub update-is : (c : Clock) (running : Bool) → ticked.Ran c running ≡ tick_of (track_of words).count (base_of (track_of words)) (track_of words).looping (clock_in (track_of words)) step
+    pub update-is : (c : Clock) (running : Bool) → RAN c running ≡ tick_of (track_of words).count (base_of (track_of words)) (track_of words).looping (clock_in (track_of words)) step
         → accepted (stepping (clock_into words c) (flag_word running)) ≡ lax_track_update words step out
     unfolding stepped_in
-    update-is c running e = ap (λ (ws : List ℕ). accepted (stepping ws (flag_word running))) (stored c) ∙ by-tick (ticked.Ran c running) e
+    update-is c running e = ap (λ (ws : List ℕ). accepted (stepping ws (flag_word running))) (stored c) ∙ by-tick (RAN c running) e
 
-    pub update-not : (r : Refusal) → ticked.Refused r ≡ tick_of (track_of words).count (base_of (track_of words)) (track_of words).looping (clock_in (track_of words)) step → refused (stepping words out) r ≡ lax_track_update words step out
+    pub update-not : (r : Refusal) → Err r ≡ tick_of (track_of words).count (base_of (track_of words)) (track_of words).looping (clock_in (track_of words)) step → refused (stepping words out) r ≡ lax_track_update words step out
     unfolding stepped_in
-    update-not r e = by-tick (ticked.Refused r) e
+    update-not r e = by-tick (Err r) e
 
   -- many times at once
   module _ (times out : List Float) (filled : List ℕ) where
@@ -240,31 +236,31 @@ module _ (words : List ℕ) (fine : check_of words ≡ 0) where
     unfolding filled_in
     none_left r some = rw some refl
 
-    pub values-not : (r : Refusal) → outcome.Refused r ≡ fill_outcome (word_at words 512) (length times) (length out) → refused (filling out filled) r ≡ lax_track_values_at words times out filled
+    pub values-not : (r : Refusal) → Err r ≡ fill_outcome (word_at words 512) (length times) (length out) → refused (filling out filled) r ≡ lax_track_values_at words times out filled
     unfolding track_from track_in
     values-not r e =
         let some = fill-number (word_at words 512) (length times) (length out) r e in
-        let b = batch.refused (track_of words) times out r (fill-by (track_of words) within times out (outcome.Refused r) e) some in
+        let b = batch.refused (track_of words) times out r (fill-by (track_of words) within times out (Err r) e) some in
         none_left r some ∙ filled-by (none_filled r) out b.0 b.1
 
-    pub values-is : outcome.Done ≡ fill_outcome (word_at words 512) (length times) (length out)
+    pub values-is : Ok tt ≡ fill_outcome (word_at words 512) (length times) (length out)
         → accepted (filling (filled_of (frames_in (track_of words)) times out) (length times ∷ unsettled_of (frames_in (track_of words)) times ∷ [])) ≡ lax_track_values_at words times out filled
     unfolding filled_in track_from track_in
-    values-is e = let b = batch.accepted (track_of words) times out (fill-by (track_of words) within times out outcome.Done e) in filled-by _ _ b.0 b.1
+    values-is e = let b = batch.accepted (track_of words) times out (fill-by (track_of words) within times out Ok tt e) in filled-by _ _ b.0 b.1
 
   -- a change of mode, by its outcome
-  module _ (m : List ℕ) (l : Loop) (known : loop_from (loop_at m 0) ≡ mode.Known l) where
-    looped_by_lem : (o : Outcome) → o ≡ looping_outcome l (base_of (track_of words)) → looped_by words m (changed_by (track_of words) (changed (with_mode (track_of words) l)) o).outcome ≡ lax_track_looping words m
+  module _ (m : List ℕ) (l : Loop) (known : loop_from (loop_at m 0) ≡ Some l) where
+    looped_by_lem : (o : Result ⊤ Refusal) → o ≡ looping_outcome l (base_of (track_of words)) → looped_by words m (changed_by (track_of words) (changed (with_mode (track_of words) l)) o).outcome ≡ lax_track_looping words m
     unfolding lax_track_looping
-    looped_by_lem o e = ap (λ (a : Changed). looped_by words m a.outcome) (looping-by (track_of words) within l o e) ∙ sym (rw known (went words (looped words m (mode.Known l))))
+    looped_by_lem o e = ap (λ (a : Changed). looped_by words m a.outcome) (looping-by (track_of words) within l o e) ∙ sym (rw known (went words (looped words m (Some l))))
 
-    pub looping-not : (r : Refusal) → outcome.Refused r ≡ looping_outcome l (base_of (track_of words)) → refused words r ≡ lax_track_looping words m
-    looping-not r e = looped_by_lem (outcome.Refused r) e
+    pub looping-not : (r : Refusal) → Err r ≡ looping_outcome l (base_of (track_of words)) → refused words r ≡ lax_track_looping words m
+    looping-not r e = looped_by_lem (Err r) e
 
-    pub looping-is : outcome.Done ≡ looping_outcome l (base_of (track_of words)) → accepted (loop_into words m) ≡ lax_track_looping words m
-    looping-is e = looped_by_lem outcome.Done e
+    pub looping-is : Ok tt ≡ looping_outcome l (base_of (track_of words)) → accepted (loop_into words m) ≡ lax_track_looping words m
+    looping-is e = looped_by_lem Ok tt e
 
-pub looping-unknown : (words m : List ℕ) → loop_from (loop_at m 0) ≡ mode.Unknown → answered 100 words ≡ lax_track_looping words m
+pub looping-unknown : (words m : List ℕ) → loop_from (loop_at m 0) ≡ None → answered 100 words ≡ lax_track_looping words m
 unfolding lax_track_looping
 looping-unknown words m h = rw h (go (known_track (track_in words)))
   where
@@ -273,7 +269,7 @@ looping-unknown words m h = rw h (go (known_track (track_in words)))
     go false = refl
 
 -- a push
-pub push-unknown : (words row : List ℕ) → frame_read (frame_at row 0) ≡ frame.Unknown → answered 100 words ≡ lax_track_push words row
+pub push-unknown : (words row : List ℕ) → frame_read (frame_at row 0) ≡ None → answered 100 words ≡ lax_track_push words row
 unfolding lax_track_push
 push-unknown words row h = rw h (go (known_track (track_in words)))
   where
@@ -281,17 +277,17 @@ push-unknown words row h = rw h (go (known_track (track_in words)))
     go true = refl
     go false = refl
 
-module _ (words row : List ℕ) (k : Keyframe) (known : frame_read (frame_at row 0) ≡ frame.Known k) where
+module _ (words row : List ℕ) (k : Keyframe) (known : frame_read (frame_at row 0) ≡ Some k) where
   pub push-stopped : (n : ℕ) → n ≡ check_of words → (n ≡ 0 → ⊥) → answered n words ≡ lax_track_push words row
   unfolding lax_track_push push_of
-  push-stopped n e some = rw known (stopped words n e some words (pushed words row (frame.Known k)) (λ t h. rw h refl))
+  push-stopped n e some = rw known (stopped words n e some words (pushed words row (Some k)) (λ t h. rw h refl))
 
   -- the frame with its time as it is stored
   at-time : (stored_of k).time ≡ float_at (stored_row row) 0
   unfolding frame_read frame_from frame_at
   at-time = go (is_kind (word_at row 2)) known
     where
-      go : (b : Bool) → cond b (frame.Known (frame_from (frame_at row 0))) frame.Unknown ≡ frame.Known k → (stored_of k).time ≡ float_at (stored_row row) 0
+      go : (b : Bool) → cond b (Some (frame_from (frame_at row 0))) None ≡ Some k → (stored_of k).time ≡ float_at (stored_row row) 0
       go true e =
           let s : frame_from (frame_at row 0) ≡ k = cc in
           rw (← s) (sym (of-picked f32 (eq (float_at row 0) zero_f) 0 (word_at row 0) _ _ refl refl))
@@ -300,34 +296,34 @@ module _ (words row : List ℕ) (k : Keyframe) (known : frame_read (frame_at row
   module _ (fine : check_of words ≡ 0) where
     went-push : lax_track_push words row ≡ pushed_by words row (push_of (track_of words) k).outcome
     unfolding lax_track_push
-    went-push = rw known (went words fine words (pushed words row (frame.Known k)))
+    went-push = rw known (went words fine words (pushed words row (Some k)))
 
     -- by its outcome, with the time as it is stored
     module _ (time : Float) (at : time ≡ float_at (stored_row row) 0) where
-      as-stored : (o : Outcome) → o ≡ push_outcome k.easing (track_of words).looping (base_of (track_of words)) time k.value
+      as-stored : (o : Result ⊤ Refusal) → o ≡ push_outcome k.easing (track_of words).looping (base_of (track_of words)) time k.value
           → o ≡ push_outcome k.easing (track_of words).looping (base_of (track_of words)) (stored_of k).time k.value
       as-stored o e = rw (at-time, ← at) e
 
-      pub push-not : (r : Refusal) → outcome.Refused r ≡ push_outcome k.easing (track_of words).looping (base_of (track_of words)) time k.value → refused words r ≡ lax_track_push words row
+      pub push-not : (r : Refusal) → Err r ≡ push_outcome k.easing (track_of words).looping (base_of (track_of words)) time k.value → refused words r ≡ lax_track_push words row
       push-not r e =
-          ap (λ (a : Changed). pushed_by words row a.outcome) (push-by (track_of words) (within words fine) k (stored_of k) (base_of (track_of words)) refl refl (outcome.Refused r) (as-stored (outcome.Refused r) e))
+          ap (λ (a : Changed). pushed_by words row a.outcome) (push-by (track_of words) (within words fine) k (stored_of k) (base_of (track_of words)) refl refl (Err r) (as-stored (Err r) e))
           ∙ sym went-push
 
-      module _ (taken : outcome.Done ≡ push_outcome k.easing (track_of words).looping (base_of (track_of words)) time k.value) where
-        room-is : (push_of (track_of words) k).outcome ≡ cond (has_room words (stored_row row)) outcome.Done (outcome.Refused TrackFull)
+      module _ (taken : Ok tt ≡ push_outcome k.easing (track_of words).looping (base_of (track_of words)) time k.value) where
+        room-is : (push_of (track_of words) k).outcome ≡ cond (has_room words (stored_row row)) Ok tt (Err TrackFull)
         unfolding takes_of
         room-is =
-            let p = push-taken _ _ _ _ _ (as-stored outcome.Done taken) in
+            let p = push-taken _ _ _ _ _ (as-stored Ok tt taken) in
             push-outcome words (stored_row row) fine k p.0 p.1 p.2 at-time
 
         -- what is left where there is room, and where there is none
-        pub push-is : (b : Bool) → b ≡ has_room words (stored_row row) → (left : List ℕ) → left ≡ cond b (push_into words (stored_row row)) words → (o : Outcome) → o ≡ room_outcome (not b)
+        pub push-is : (b : Bool) → b ≡ has_room words (stored_row row) → (left : List ℕ) → left ≡ cond b (push_into words (stored_row row)) words → (o : Result ⊤ Refusal) → o ≡ room_outcome (not b)
             → answered (number_by o) left ≡ lax_track_push words row
         unfolding room_outcome
         push-is b r left l o e =
-            let w : lax_track_push words row ≡ pushed_by words row (cond b outcome.Done (outcome.Refused TrackFull)) = rw r (went-push ∙ rw room-is refl) in
+            let w : lax_track_push words row ≡ pushed_by words row (cond b Ok tt (Err TrackFull)) = rw r (went-push ∙ rw room-is refl) in
             rw (l, e) (go b ∙ sym w)
           where
-            go : (b : Bool) → answered (number_by (room_outcome (not b))) (cond b (push_into words (stored_row row)) words) ≡ pushed_by words row (cond b outcome.Done (outcome.Refused TrackFull))
+            go : (b : Bool) → answered (number_by (room_outcome (not b))) (cond b (push_into words (stored_row row)) words) ≡ pushed_by words row (cond b Ok tt (Err TrackFull))
             go true = refl
             go false = refl

@@ -1,17 +1,13 @@
 -- What a call answers, a number, and what it leaves in the words and the places that it was lent. A refused call leaves what came.
-use Rattle.std.specs.Prelude.{ℕ, Bool, List, [], ◌∷◌, Float}
+use Rattle.std.specs.Prelude.{ℕ, Bool, List, [], ◌∷◌, Float, Err, Ok, Result}
 use Rattle.math.specs.Bits.{bits_of}
 use Rattle.refusal.specs.declared.Refusal.{Refusal}
 use Rattle.refusal.specs.Number.{number_of}
-use Rattle.units.specs.declared.InSeconds.{InSeconds}
-use Rattle.units.specs.declared.InSeconds.TheVariants as seconds
-use Rattle.units.specs.declared.InProgress.{InProgress}
-use Rattle.units.specs.declared.InProgress.TheVariants as progress
 use Rattle.bezier.specs.declared.types.Found.{Found}
-use Rattle.easing.specs.declared.answers.Eased.{Eased}
-use Rattle.easing.specs.declared.answers.Eased.TheVariants as eased
 use Rattle.words.specs.Kinds.{unknown_word}
 use Rattle.words.specs.Modes.{flag_word}
+use Rattle.units.specs.declared.Progress.{Progress}
+use Rattle.units.specs.declared.Seconds.{Seconds}
 
 -- A is what was lent to be written
 pub record Answer (A : Type 0) : Type 0 where
@@ -35,17 +31,17 @@ unknown came = answering unknown_word came
 abbrev pub found_words : Found → List ℕ
 found_words f = bits_of f.value ∷ flag_word f.settled ∷ f.xs ∷ f.derivatives ∷ []
 
-unfoldable pub found_in : List ℕ → Eased → Answer (List ℕ)
-found_in out (eased.Value f) = accepted (found_words f)
-found_in out (eased.Refused r) = refused out r
+unfoldable pub found_in : List ℕ → Result Found Refusal → Answer (List ℕ)
+found_in out (Ok f) = accepted (found_words f)
+found_in out (Err r) = refused out r
 
-unfoldable pub seconds_in : Float → InSeconds → Answer Float
-seconds_in out (seconds.Seconds s) = accepted s.0
-seconds_in out (seconds.Refused r) = refused out r
+unfoldable pub seconds_in : Float → Result Seconds Refusal → Answer Float
+seconds_in out (Ok s) = accepted s.0
+seconds_in out (Err r) = refused out r
 
-unfoldable pub progress_in : Float → InProgress → Answer Float
-progress_in out (progress.Progress p) = accepted p.0
-progress_in out (progress.Refused r) = refused out r
+unfoldable pub progress_in : Float → Result Progress Refusal → Answer Float
+progress_in out (Ok p) = accepted p.0
+progress_in out (Err r) = refused out r
 
 abbrev pub flag_in : Bool → Answer ℕ
 flag_in b = accepted (flag_word b)

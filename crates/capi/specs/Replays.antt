@@ -1,25 +1,21 @@
 -- The calls that read an event log, as the C interface has them.
-use Rattle.std.specs.Prelude.{ℕ, List, [], ◌∷◌, Bool, cond, ltb, eqb}
+use Rattle.std.specs.Prelude.{ℕ, List, [], ◌∷◌, Bool, cond, ltb, eqb, None, Option, Some}
 use Rattle.steps.specs.Course.{outcome_number, over}
-use Rattle.reader.specs.declared.gaps.Last.{Last}
-use Rattle.reader.specs.declared.gaps.Last.TheVariants.{Unread, Number}
 use Rattle.reader.specs.declared.hear.Replay.{Replay}
 use Rattle.reader.specs.declared.read.Replayed.{Replayed}
 use Rattle.reader.specs.Reading.{Reading, read_on_of, replay_of, answer_of}
 use Rattle.tween.specs.Limits.{within_of}
 use Rattle.words.specs.Lent.{word_at, tween_into}
-use Rattle.capi.specs.declared.replays.LastRead.{LastRead}
-use Rattle.capi.specs.declared.replays.LastRead.TheVariants.{Known, Unknown}
 use Rattle.capi.specs.Answers.{Answer, answering, unknown}
 use Rattle.capi.specs.Tweens.{on_tween, idle}
 
 -- a number of 16 bits, or 65,536 where no record was read
-unfoldable pub last_from : ℕ → LastRead
-last_from n = cond (ltb n 65536) (Known (Number n)) (cond (eqb n 65536) (Known Unread) Unknown)
+unfoldable pub last_from : ℕ → Option (Option ℕ)
+last_from n = cond (ltb n 65536) (Some (Some n)) (cond (eqb n 65536) (Some None) None)
 
-abbrev pub last_word : Last → ℕ
-last_word Unread = 65536
-last_word (Number n) = n
+abbrev pub last_word : Option ℕ → ℕ
+last_word None = 65536
+last_word (Some n) = n
 
 -- reached is four numbers: the records missing, the folds, the last number, and how many records were read
 pub record Replaying : Type 0 where
@@ -52,9 +48,9 @@ lax_replay ws log gaps reached =
     let came : Replaying = record { words = ws; gaps = gaps; reached = reached } in
     on_tween ws came (λ t. replayed_in (within_of t) came (replay_of t log gaps))
 
-abbrev pub on_last : {A : Type 0} → LastRead → A → (Last → Answer A) → Answer A
-on_last (Known l) came answer = answer l
-on_last Unknown came answer = unknown came
+abbrev pub on_last : {A : Type 0} → Option (Option ℕ) → A → (Option ℕ → Answer A) → Answer A
+on_last (Some l) came answer = answer l
+on_last None came answer = unknown came
 
 -- the records that follow
 unfoldable pub lax_replay_on : List ℕ → List ℕ → List ℕ → List ℕ → Answer Replaying

@@ -1,32 +1,25 @@
 -- The calls of a track: the track read from its 518 words, the library's definition, and what is left in the lent words and places.
-use Rattle.std.specs.Prelude.{ℕ, cond, List, [], ◌∷◌, eqb, set, replicate, Float}
+use Rattle.std.specs.Prelude.{ℕ, cond, List, [], ◌∷◌, eqb, set, replicate, Float, Bool, Err, None, Ok, Option, Result, Some, ⊤}
 use Rattle.math.specs.Bits.{bits_of}
 use Rattle.refusal.specs.Refusing.{unless}
 use Rattle.keyframe.specs.declared.types.Track.{Track}
 use Rattle.keyframe.specs.declared.types.Changed.{Changed}
-use Rattle.keyframe.specs.declared.types.Outcome.{Outcome}
-use Rattle.keyframe.specs.declared.types.Outcome.TheVariants as outcome
 use Rattle.keyframe.specs.declared.types.Updated.{Updated}
-use Rattle.keyframe.specs.declared.types.Stepped.{Stepped}
-use Rattle.keyframe.specs.declared.types.Stepped.TheVariants as stepped
 use Rattle.keyframe.specs.declared.types.Filled.{Filled}
-use Rattle.keyframe.specs.declared.types.Completion.{Completion}
-use Rattle.keyframe.specs.declared.types.Completion.TheVariants as completion
 use Rattle.keyframe.specs.Pushing.{looping_of, push_of}
 use Rattle.keyframe.specs.Sampling.{value_at_of, value_now}
 use Rattle.keyframe.specs.Batch.{batch_out, batch_answer}
 use Rattle.keyframe.specs.Playback.{active_time_of, duration_in, playback_in, progress_of, complete_of}
 use Rattle.keyframe.specs.Stepping.{reset_of, seek_to_of, update_of}
 use Rattle.keyframe.specs.Clock.{clock_in}
-use Rattle.words.specs.declared.modes.LoopRead.{LoopRead}
-use Rattle.words.specs.declared.modes.LoopRead.TheVariants as mode
-use Rattle.words.specs.declared.tracks.FrameRead.{FrameRead}
-use Rattle.words.specs.declared.tracks.FrameRead.TheVariants as frame
 use Rattle.words.specs.Modes.{loop_from, flag_word}
 use Rattle.words.specs.Tracks.{frame_read, known_track, track_from}
 use Rattle.words.specs.Lent.{word_at, frame_at, loop_at, track_in, clock_into}
 use Rattle.track_words.specs.Pushing.{push_into, stored_row}
 use Rattle.capi.specs.Answers.{Answer, accepted, refused, unknown, found_in, seconds_in, progress_in, flag_in}
+use Rattle.frames.specs.declared.frame.Keyframe.{Keyframe}
+use Rattle.loop_mode.specs.declared.Loop.{Loop}
+use Rattle.refusal.specs.declared.Refusal.{Refusal}
 
 -- the answer for the track that is read, or the one for words that are none
 abbrev pub on_track : {A : Type 0} → List ℕ → A → (Track → Answer A) → Answer A
@@ -36,13 +29,13 @@ on_track ws came answer = unless (known_track (track_in ws)) (unknown came) (ans
 abbrev pub lax_track_new : List ℕ
 lax_track_new = replicate 518 0
 
-abbrev pub pushed_by : List ℕ → List ℕ → Outcome → Answer (List ℕ)
-pushed_by ws row outcome.Done = accepted (push_into ws (stored_row row))
-pushed_by ws row (outcome.Refused r) = refused ws r
+abbrev pub pushed_by : List ℕ → List ℕ → Result ⊤ Refusal → Answer (List ℕ)
+pushed_by ws row Ok tt = accepted (push_into ws (stored_row row))
+pushed_by ws row (Err r) = refused ws r
 
-abbrev pub pushed : List ℕ → List ℕ → FrameRead → Track → Answer (List ℕ)
-pushed ws row (frame.Known k) t = pushed_by ws row (push_of t k).outcome
-pushed ws row frame.Unknown t = unknown ws
+abbrev pub pushed : List ℕ → List ℕ → Option Keyframe → Track → Answer (List ℕ)
+pushed ws row (Some k) t = pushed_by ws row (push_of t k).outcome
+pushed ws row None t = unknown ws
 
 -- a frame of eight words, which are stored as they came but for a time of -0
 unfoldable pub lax_track_push : List ℕ → List ℕ → Answer (List ℕ)
@@ -60,13 +53,13 @@ plain_row time value = bits_of time ∷ bits_of value ∷ 0 ∷ 0 ∷ 0 ∷ 0 �
 abbrev pub loop_into : List ℕ → List ℕ → List ℕ
 loop_into ws m = set (set (set ws 514 (word_at m 0)) 515 (word_at m 1)) 517 0
 
-abbrev pub looped_by : List ℕ → List ℕ → Outcome → Answer (List ℕ)
-looped_by ws m outcome.Done = accepted (loop_into ws m)
-looped_by ws m (outcome.Refused r) = refused ws r
+abbrev pub looped_by : List ℕ → List ℕ → Result ⊤ Refusal → Answer (List ℕ)
+looped_by ws m Ok tt = accepted (loop_into ws m)
+looped_by ws m (Err r) = refused ws r
 
-abbrev pub looped : List ℕ → List ℕ → LoopRead → Track → Answer (List ℕ)
-looped ws m (mode.Known l) t = looped_by ws m (looping_of t l).outcome
-looped ws m mode.Unknown t = unknown ws
+abbrev pub looped : List ℕ → List ℕ → Option Loop → Track → Answer (List ℕ)
+looped ws m (Some l) t = looped_by ws m (looping_of t l).outcome
+looped ws m None t = unknown ws
 
 unfoldable pub lax_track_looping : List ℕ → List ℕ → Answer (List ℕ)
 lax_track_looping ws m = on_track ws ws (looped ws m (loop_from (loop_at m 0)))
@@ -89,16 +82,16 @@ lax_track_playback_duration ws out = on_track ws out (λ t. seconds_in out (play
 unfoldable pub lax_track_progress : List ℕ → Float → Answer Float
 lax_track_progress ws out = on_track ws out (λ t. progress_in out (progress_of t))
 
-unfoldable pub completion_in : ℕ → Completion → Answer ℕ
-completion_in out (completion.Complete b) = flag_in b
-completion_in out (completion.Refused r) = refused out r
+unfoldable pub completion_in : ℕ → Result Bool Refusal → Answer ℕ
+completion_in out (Ok b) = flag_in b
+completion_in out (Err r) = refused out r
 
 unfoldable pub lax_track_is_complete : List ℕ → ℕ → Answer ℕ
 lax_track_is_complete ws out = on_track ws out (λ t. completion_in out (complete_of t))
 
-abbrev pub moved_by : List ℕ → Track → Outcome → Answer (List ℕ)
-moved_by ws t outcome.Done = accepted (clock_into ws (clock_in t))
-moved_by ws t (outcome.Refused r) = refused ws r
+abbrev pub moved_by : List ℕ → Track → Result ⊤ Refusal → Answer (List ℕ)
+moved_by ws t Ok tt = accepted (clock_into ws (clock_in t))
+moved_by ws t (Err r) = refused ws r
 
 -- what moves in a track
 unfoldable pub moved_in : List ℕ → Changed → Answer (List ℕ)
@@ -115,9 +108,9 @@ pub record TrackStepping : Type 0 where
   pub words : List ℕ
   pub running : ℕ
 
-abbrev pub stepped_by : TrackStepping → Track → Stepped → Answer TrackStepping
-stepped_by came t (stepped.Ran running) = accepted (record { words = clock_into came.words (clock_in t); running = flag_word running })
-stepped_by came t (stepped.Refused r) = refused came r
+abbrev pub stepped_by : TrackStepping → Track → Result Bool Refusal → Answer TrackStepping
+stepped_by came t (Ok running) = accepted (record { words = clock_into came.words (clock_in t); running = flag_word running })
+stepped_by came t (Err r) = refused came r
 
 unfoldable pub stepped_in : TrackStepping → Updated → Answer TrackStepping
 stepped_in came a = stepped_by came a.track a.stepped

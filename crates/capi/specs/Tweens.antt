@@ -1,30 +1,27 @@
 -- The calls of a tween: the tween read from its 18 words, the library's definition, and what is left in the lent words and places.
-use Rattle.std.specs.Prelude.{ℕ, Bool, cond, not, ◌&&◌, List, [], ◌∷◌, ◌++◌, eqb, Float}
+use Rattle.std.specs.Prelude.{ℕ, Bool, cond, not, ◌&&◌, List, [], ◌∷◌, ◌++◌, eqb, Float, Err, None, Ok, Option, Result, Some}
 use Rattle.math.specs.Bits.{bits_of}
 use Rattle.tween.specs.declared.record.Tween.{Tween}
-use Rattle.tween.specs.declared.answers.Snapped.{Snapped}
-use Rattle.tween.specs.declared.answers.Snapped.TheVariants as snapped
-use Rattle.tween.specs.declared.answers.Changed.{Changed}
-use Rattle.tween.specs.declared.answers.Changed.TheVariants as changed
 use Rattle.tween.specs.declared.answers.Updated.{Updated}
-use Rattle.tween.specs.declared.answers.Updated.TheVariants as updated
 use Rattle.tween.specs.Parts.{new_of}
 use Rattle.tween.specs.Calls.{progress_of, eased_progress_of, value_of, snapshot_of, playback_duration_of, reset_of, seek_of, reverse_of, pause_of, resume_of}
 use Rattle.tween.specs.Update.{update_of}
 use Rattle.steps.specs.declared.run.Run.{Run}
 use Rattle.steps.specs.Course.{Course, run_of, answer_of, outcome_number, over}
 use Rattle.words.specs.declared.tweens.LaxTween.{LaxTween}
-use Rattle.words.specs.declared.tweens.TweenRead.{TweenRead}
-use Rattle.words.specs.declared.tweens.TweenRead.TheVariants.{Known, Unknown}
 use Rattle.words.specs.Modes.{state_word, flag_word}
 use Rattle.words.specs.Tweens.{tween_from, tween_words}
 use Rattle.words.specs.Lent.{tween_in, tween_into}
 use Rattle.capi.specs.Answers.{Answer, answering, accepted, refused, unknown, found_in, seconds_in, progress_in}
 use Rattle.capi.specs.Easings.{easing_list}
+use Rattle.refusal.specs.declared.Refusal.{Refusal}
+use Rattle.refusal.specs.declared.rejected.Rejected.{Rejected}
+use Rattle.tween.specs.declared.record.TweenSnapshot.{TweenSnapshot}
+use Rattle.refusal.specs.Refusing.{rejected}
 
-abbrev pub by_tween : {A : Type 0} → TweenRead → A → (Tween → Answer A) → Answer A
-by_tween (Known t) came answer = answer t
-by_tween Unknown came answer = unknown came
+abbrev pub by_tween : {A : Type 0} → Option Tween → A → (Tween → Answer A) → Answer A
+by_tween (Some t) came answer = answer t
+by_tween None came answer = unknown came
 
 -- the answer for the tween that is read, or the one for words that are none
 abbrev pub on_tween : {A : Type 0} → List ℕ → A → (Tween → Answer A) → Answer A
@@ -52,11 +49,11 @@ unfoldable pub lax_tween_eased_progress : List ℕ → List ℕ → Answer (List
 lax_tween_eased_progress ws out = on_tween ws out (λ t. found_in out (eased_progress_of t))
 
 -- five words: elapsed, delay_elapsed, state, loop_count, ping_pong_reverse
-unfoldable pub snapshot_in : List ℕ → Snapped → Answer (List ℕ)
-snapshot_in out (snapped.Snapshot s) =
+unfoldable pub snapshot_in : List ℕ → Result TweenSnapshot Refusal → Answer (List ℕ)
+snapshot_in out (Ok s) =
     accepted
     (bits_of s.elapsed ∷ bits_of s.delay_elapsed ∷ state_word s.state ∷ s.loop_count ∷ flag_word s.ping_pong_reverse ∷ [])
-snapshot_in out (snapped.Refused r) = refused out r
+snapshot_in out (Err r) = refused out r
 
 unfoldable pub lax_tween_snapshot : List ℕ → List ℕ → Answer (List ℕ)
 lax_tween_snapshot ws out = on_tween ws out (λ t. snapshot_in out (snapshot_of t))
@@ -64,9 +61,9 @@ lax_tween_snapshot ws out = on_tween ws out (λ t. snapshot_in out (snapshot_of 
 unfoldable pub lax_tween_playback_duration : List ℕ → Float → Answer Float
 lax_tween_playback_duration ws out = on_tween ws out (λ t. seconds_in out (playback_duration_of t))
 
-unfoldable pub changed_in : List ℕ → Changed → Answer (List ℕ)
-changed_in ws (changed.Done u) = accepted (tween_into ws u)
-changed_in ws (changed.Refused u r) = refused ws r
+unfoldable pub changed_in : List ℕ → Result Tween (Rejected Tween) → Answer (List ℕ)
+changed_in ws (Ok u) = accepted (tween_into ws u)
+changed_in ws (rejected u r) = refused ws r
 
 unfoldable pub lax_tween_reset : List ℕ → Answer (List ℕ)
 lax_tween_reset ws = on_tween ws ws (λ t. changed_in ws (reset_of t))
@@ -88,9 +85,9 @@ pub record Stepping : Type 0 where
   pub words : List ℕ
   pub out : List ℕ
 
-unfoldable pub updated_in : Stepping → Updated → Answer Stepping
-updated_in came (updated.Ran u k running) = accepted (record { words = tween_into came.words u; out = k ∷ flag_word running ∷ [] })
-updated_in came (updated.Refused u r) = refused came r
+unfoldable pub updated_in : Stepping → Result Updated (Rejected Tween) → Answer Stepping
+updated_in came (RAN u k running) = accepted (record { words = tween_into came.words u; out = k ∷ flag_word running ∷ [] })
+updated_in came (rejected u r) = refused came r
 
 unfoldable pub lax_tween_update : List ℕ → Float → List ℕ → Answer Stepping
 lax_tween_update ws step out =

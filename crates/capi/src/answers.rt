@@ -7,10 +7,6 @@ ghost use Rattle.capi.specs.Answers.{answering, accepted, found_words, found_in,
 ghost use Rattle.capi.specs.Tweens.{snapshot_in, changed_in};
 
 use bezier::Found;
-use easing::Eased;
-use steps::Outcome;
-use tween::{Changed, Snapped};
-use units::{InProgress, InSeconds};
 pub use words::UNKNOWN_WORD;
 use words::{flag_word, state_word, store_tween};
 
@@ -26,15 +22,15 @@ pub fn store_found(found: Found, out: &mut [u32; 4])
     ];
 }
 
-pub fn put_found(a: Eased, out: &mut [u32; 4]) -> u32
+pub fn put_found(a: Result<Found, Refusal>, out: &mut [u32; 4]) -> u32
     ensures { answering result out.new ≡ found_in out.old a }
 {
     match a {
-        Eased::Value(found) => {
+        Ok(found) => {
             store_found(found, out);
             0
         }
-        Eased::Refused(refusal) => refusal.number(),
+        Err(refusal) => refusal.number(),
     }
 }
 
@@ -53,35 +49,35 @@ pub fn put_flag(b: bool, out: &mut u32) -> u32
     0
 }
 
-pub fn put_seconds(a: InSeconds, out: &mut f32) -> u32
+pub fn put_seconds(a: Result<Seconds, Refusal>, out: &mut f32) -> u32
     ensures { answering result out.new ≡ seconds_in out.old a }
 {
     match a {
-        InSeconds::Seconds(s) => {
+        Ok(s) => {
             *out = s.0;
             0
         }
-        InSeconds::Refused(refusal) => refusal.number(),
+        Err(refusal) => refusal.number(),
     }
 }
 
-pub fn put_progress(a: InProgress, out: &mut f32) -> u32
+pub fn put_progress(a: Result<Progress, Refusal>, out: &mut f32) -> u32
     ensures { answering result out.new ≡ progress_in out.old a }
 {
     match a {
-        InProgress::Progress(p) => {
+        Ok(p) => {
             *out = p.0;
             0
         }
-        InProgress::Refused(refusal) => refusal.number(),
+        Err(refusal) => refusal.number(),
     }
 }
 
-pub fn put_snapshot(a: Snapped, out: &mut [u32; 5]) -> u32
+pub fn put_snapshot(a: Result<TweenSnapshot, Refusal>, out: &mut [u32; 5]) -> u32
     ensures { answering result out.new ≡ snapshot_in out.old a }
 {
     match a {
-        Snapped::Snapshot(now) => {
+        Ok(now) => {
             let state = now.state;
             *out = [
                 math::bits(now.elapsed),
@@ -92,27 +88,27 @@ pub fn put_snapshot(a: Snapped, out: &mut [u32; 5]) -> u32
             ];
             0
         }
-        Snapped::Refused(refusal) => refusal.number(),
+        Err(refusal) => refusal.number(),
     }
 }
 
-pub fn put_tween(a: Changed, w: &mut [u32; 18]) -> u32
+pub fn put_tween(a: Result<Tween, Rejected<Tween>>, w: &mut [u32; 18]) -> u32
     ensures { answering result w.new ≡ changed_in w.old a }
 {
     match a {
-        Changed::Done(u) => {
+        Ok(u) => {
             store_tween(w, u);
             0
         }
-        Changed::Refused { tween: _, refusal } => refusal.number(),
+        Err { tween: _, refusal } => refusal.number(),
     }
 }
 
-pub fn outcome_number(outcome: Outcome) -> u32
+pub fn outcome_number(outcome: Result<(), Refusal>) -> u32
     ensures { result ≡ outcome_number outcome }
 {
     match outcome {
-        Outcome::Finished => 0,
-        Outcome::Refused(refusal) => refusal.number(),
+        Ok(()) => 0,
+        Err(refusal) => refusal.number(),
     }
 }

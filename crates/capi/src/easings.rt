@@ -4,18 +4,18 @@ ghost use Rattle.capi.specs.Answers.{answering};
 ghost use Rattle.capi.specs.Easings.{lax_easing_apply, lax_easing_eq, lax_easing_is_supplied, lax_easing_named};
 
 use crate::answers::{UNKNOWN_WORD, put_flag, put_found, put_plain};
-use easing::{Eased, Easing, Equality};
-use easing_words::{Drawn, Searched, draw, search};
+use easing::Easing;
+use easing_words::{draw, search};
 use units::Progress;
-use words::{EasingRead, easing_in, easing_of, easing_words};
+use words::{easing_in, easing_of, easing_words};
 
 // By way of the library's easing.
 fn apply_in(e: &[u32; 6], t: f32, out: &mut [u32; 4]) -> u32
     ensures { answering result out.new ≡ lax_easing_apply e.now t out.old }
 {
     match easing_of(easing_in(e)) {
-        EasingRead::Known(easing) => put_found(easing.apply(Progress(t)), out),
-        EasingRead::Unknown => UNKNOWN_WORD,
+        Some(easing) => put_found(easing.apply(Progress(t)), out),
+        None => UNKNOWN_WORD,
     }
 }
 
@@ -26,11 +26,11 @@ pub fn lax_easing_apply(e: &[u32; 6], t: f32, out: &mut [u32; 4]) -> u32
         return apply_in(e, t, out);
     }
     let u = math::clamp01(t);
-    if let Drawn::At(v) = draw(e[0], u) {
+    if let Some(v) = draw(e[0], u) {
         return put_plain(v, out);
     }
-    if let Searched::At(found) = search(e[0], e[1], e[2], e[3], e[4], u) {
-        return put_found(Eased::Value(found), out);
+    if let Some(found) = search(e[0], e[1], e[2], e[3], e[4], u) {
+        return put_found(Ok(found), out);
     }
     apply_in(e, t, out)
 }
@@ -38,15 +38,15 @@ pub fn lax_easing_apply(e: &[u32; 6], t: f32, out: &mut [u32; 4]) -> u32
 pub fn lax_easing_eq(x: &[u32; 6], y: &[u32; 6], out: &mut u32) -> u32
     ensures { answering result out.new ≡ lax_easing_eq x.now y.now out.old }
 {
-    let EasingRead::Known(left) = easing_of(easing_in(x)) else {
+    let Some(left) = easing_of(easing_in(x)) else {
         return UNKNOWN_WORD;
     };
-    let EasingRead::Known(right) = easing_of(easing_in(y)) else {
+    let Some(right) = easing_of(easing_in(y)) else {
         return UNKNOWN_WORD;
     };
     match left.eq(right) {
-        Equality::Equal(b) => put_flag(b, out),
-        Equality::Refused(refusal) => refusal.number(),
+        Ok(b) => put_flag(b, out),
+        Err(refusal) => refusal.number(),
     }
 }
 
@@ -54,8 +54,8 @@ pub fn lax_easing_is_supplied(e: &[u32; 6], out: &mut u32) -> u32
     ensures { answering result out.new ≡ lax_easing_is_supplied e.now out.old }
 {
     match easing_of(easing_in(e)) {
-        EasingRead::Known(easing) => put_flag(easing.is_supplied(), out),
-        EasingRead::Unknown => UNKNOWN_WORD,
+        Some(easing) => put_flag(easing.is_supplied(), out),
+        None => UNKNOWN_WORD,
     }
 }
 

@@ -5,7 +5,7 @@ ghost use Rattle.capi.specs.Answers.{answering};
 ghost use Rattle.capi.specs.Logs.{event_in, length_in, lax_log_head, lax_log_record, lax_log_buffer};
 
 use crate::answers::UNKNOWN_WORD;
-use event_log::{Event, Logged, write_head, write_record};
+use event_log::{Event, write_head, write_record};
 
 #[derive(Clone, Copy)]
 pub enum EventRead {
@@ -14,28 +14,28 @@ pub enum EventRead {
 }
 
 // kind: 1 step, 2 pause, 3 resume, 4 reset. The step, in seconds, is looked at in 1.
-fn event_in(w: &[u32; 2]) -> EventRead
+fn event_in(w: &[u32; 2]) -> Option<Event>
     ensures { result ≡ event_in w.now }
 {
     let kind = w[0];
     match kind {
-        1 => EventRead::Known(Event::Step(math::of_bits(w[1]))),
-        2 => EventRead::Known(Event::Pause),
-        3 => EventRead::Known(Event::Resume),
-        4 => EventRead::Known(Event::Reset),
-        _ => EventRead::Unknown,
+        1 => Some(Event::Step(math::of_bits(w[1]))),
+        2 => Some(Event::Pause),
+        3 => Some(Event::Resume),
+        4 => Some(Event::Reset),
+        _ => None,
     }
 }
 
-fn put_length(logged: Logged, written: &mut usize) -> u32
+fn put_length(logged: Result<usize, Refusal>, written: &mut usize) -> u32
     ensures { answering result written.new ≡ length_in written.old logged }
 {
     match logged {
-        Logged::Written(length) => {
+        Ok(length) => {
             *written = length;
             0
         }
-        Logged::Refused(refusal) => refusal.number(),
+        Err(refusal) => refusal.number(),
     }
 }
 
@@ -52,7 +52,7 @@ pub fn lax_log_record(buffer: &mut [u8], written: &mut usize, event: &[u32; 2]) 
     ensures bytes { buffer.new ≡ lax_log_buffer buffer.old written.old event.now }
 {
     match event_in(event) {
-        EventRead::Known(e) => put_length(write_record(buffer, *written, e), written),
-        EventRead::Unknown => UNKNOWN_WORD,
+        Some(e) => put_length(write_record(buffer, *written, e), written),
+        None => UNKNOWN_WORD,
     }
 }

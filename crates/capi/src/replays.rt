@@ -5,8 +5,8 @@ ghost use Rattle.capi.specs.Answers.{answering};
 ghost use Rattle.capi.specs.Replays.{last_from, last_word, reached_words, replayed_words, replayed_reached, lax_replay, lax_replay_on};
 
 use crate::answers::{UNKNOWN_WORD, outcome_number};
-use reader::{Last, Replay, Replayed, replay, replay_on};
-use words::{TweenRead, store_tween, tween_in, tween_of};
+use reader::{Replay, Replayed, replay, replay_on};
+use words::{store_tween, tween_in, tween_of};
 
 #[derive(Clone, Copy)]
 pub enum LastRead {
@@ -15,24 +15,24 @@ pub enum LastRead {
 }
 
 // The number of the last record that was read, 65,536 where none was.
-fn last_of(last: u64) -> LastRead
+fn last_of(last: u64) -> Option<Option<u16>>
     ensures { result ≡ last_from last }
 {
     if last < 65536 {
-        return LastRead::Known(Last::Number(last as u16));
+        return Some(Some(last as u16));
     }
     if last == 65536 {
-        return LastRead::Known(Last::Unread);
+        return Some(None);
     }
-    LastRead::Unknown
+    None
 }
 
-fn last_word(last: Last) -> u64
+fn last_word(last: Option<u16>) -> u64
     ensures { result ≡ last_word last }
 {
     match last {
-        Last::Unread => 65536,
-        Last::Number(number) => number as u64,
+        None => 65536,
+        Some(number) => number as u64,
     }
 }
 
@@ -79,11 +79,11 @@ pub fn lax_log_replay(
     ensures { answering result (record { words = w.new; gaps = gaps.new; reached = reached.new }) ≡ lax_replay w.old log.now gaps.old reached.old }
 {
     match tween_of(tween_in(w)) {
-        TweenRead::Known(tween) => {
+        Some(tween) => {
             let sound = tween::within(tween);
             put_replayed(sound, replay(tween, log, gaps), w, reached)
         }
-        TweenRead::Unknown => UNKNOWN_WORD,
+        None => UNKNOWN_WORD,
     }
 }
 
@@ -95,10 +95,10 @@ pub fn lax_log_replay_on(
 ) -> u32
     ensures { answering result (record { words = w.new; gaps = gaps.new; reached = reached.new }) ≡ lax_replay_on w.old records.now gaps.old reached.old }
 {
-    let TweenRead::Known(tween) = tween_of(tween_in(w)) else {
+    let Some(tween) = tween_of(tween_in(w)) else {
         return UNKNOWN_WORD;
     };
-    let LastRead::Known(last) = last_of(reached[2]) else {
+    let Some(last) = last_of(reached[2]) else {
         return UNKNOWN_WORD;
     };
     let begun = Replay {

@@ -4,9 +4,9 @@ ghost use Rattle.std.specs.Prelude.{◌≡◌};
 ghost use Rattle.capi.specs.Tracks.{lax_track_new, lax_track_push, eased_row, plain_row, lax_track_looping, lax_track_value_at, lax_track_value, lax_track_values_at, lax_track_active_time, lax_track_duration, lax_track_playback_duration, lax_track_progress, lax_track_is_complete, lax_track_reset, lax_track_seek_to, lax_track_update};
 
 use crate::answers::{UNKNOWN_WORD, store_found};
-use keyframe::{Clock, Outcome, Ticked};
+use keyframe::{Clock, Ticked};
 use track_words::check;
-use words::{FrameRead, LoopRead, flag_word, frame_in, loop_in, loop_of, read_frame};
+use words::{flag_word, frame_in, loop_in, loop_of, read_frame};
 
 pub fn lax_track_new(w: &mut [u32; 518]) -> u32
     ensures number { result ≡ 0 }
@@ -20,14 +20,14 @@ pub fn lax_track_looping(w: &mut [u32; 518], mode: &[u32; 2]) -> u32
     ensures number { result ≡ (lax_track_looping w.old mode.now).number }
     ensures words { w.new ≡ (lax_track_looping w.old mode.now).left }
 {
-    let LoopRead::Known(looping) = loop_of(loop_in(mode)) else {
+    let Some(looping) = loop_of(loop_in(mode)) else {
         return UNKNOWN_WORD;
     };
     let number = check(w);
     if number != 0 {
         return number;
     }
-    if let Outcome::Refused(refusal) = keyframe::looping_outcome(
+    if let Err(refusal) = keyframe::looping_outcome(
         looping,
         track_words::duration(w),
     ) {
@@ -47,7 +47,7 @@ pub fn lax_track_value_at(w: &[u32; 518], secs: f32, out: &mut [u32; 4]) -> u32
     if number != 0 {
         return number;
     }
-    if let Outcome::Refused(refusal) = keyframe::sample_outcome(track_words::count(w)) {
+    if let Err(refusal) = keyframe::sample_outcome(track_words::count(w)) {
         return refusal.number();
     }
     store_found(track_words::value_at(w, secs), out);
@@ -62,7 +62,7 @@ pub fn lax_track_value(w: &[u32; 518], out: &mut [u32; 4]) -> u32
     if number != 0 {
         return number;
     }
-    if let Outcome::Refused(refusal) = keyframe::sample_outcome(track_words::count(w)) {
+    if let Err(refusal) = keyframe::sample_outcome(track_words::count(w)) {
         return refusal.number();
     }
     store_found(track_words::value_at(w, track_words::active_time(w)), out);
@@ -149,7 +149,7 @@ pub fn lax_track_seek_to(w: &mut [u32; 518], p: f32) -> u32
     if number != 0 {
         return number;
     }
-    if let Outcome::Refused(refusal) = keyframe::seek_outcome(p) {
+    if let Err(refusal) = keyframe::seek_outcome(p) {
         return refusal.number();
     }
     let c = track_words::seek(w, math::clamp01(p));
@@ -168,12 +168,12 @@ pub fn lax_track_update(w: &mut [u32; 518], step: f32, out: &mut u32) -> u32
         return number;
     }
     match track_words::tick(w, step) {
-        Ticked::Ran { clock, running } => {
+        Ok { clock, running } => {
             track_words::store_clock(w, clock);
             *out = flag_word(running);
             0
         }
-        Ticked::Refused(refusal) => refusal.number(),
+        Err(refusal) => refusal.number(),
     }
 }
 
@@ -182,7 +182,7 @@ fn push_row(w: &mut [u32; 518], row: &[u32; 8]) -> u32
     ensures number { result ≡ (lax_track_push w.old row.now).number }
     ensures words { w.new ≡ (lax_track_push w.old row.now).left }
 {
-    let FrameRead::Known(k) = read_frame(frame_in(row)) else {
+    let Some(k) = read_frame(frame_in(row)) else {
         return UNKNOWN_WORD;
     };
     let number = check(w);
@@ -192,11 +192,11 @@ fn push_row(w: &mut [u32; 518], row: &[u32; 8]) -> u32
     let easing = k.easing;
     let stored = track_words::stored_row(row);
     let time = math::of_bits(stored[0]);
-    if let Outcome::Refused(refusal) = track_words::push_outcome(w, easing, time, k.value) {
+    if let Err(refusal) = track_words::push_outcome(w, easing, time, k.value) {
         return refusal.number();
     }
     let full = !track_words::put(w, &stored);
-    if let Outcome::Refused(refusal) = keyframe::room_outcome(full) {
+    if let Err(refusal) = keyframe::room_outcome(full) {
         return refusal.number();
     }
     0
@@ -251,7 +251,7 @@ pub fn lax_track_values_at(
         return number;
     }
     let outcome = keyframe::fill_outcome(track_words::count(w), times.len(), out.len());
-    if let Outcome::Refused(refusal) = outcome {
+    if let Err(refusal) = outcome {
         return refusal.number();
     }
     let unsettled = track_words::fill(w, times, out);

@@ -8,12 +8,11 @@ use crate::answers::{
     UNKNOWN_WORD, outcome_number, put_found, put_plain, put_progress, put_seconds, put_snapshot,
     put_tween,
 };
-use easing::Eased;
 use steps::{Run, run_steps};
 use tween::{Tween, Updated};
 use tween_words::{Stepped, Valued, step_on, value};
 use units::Progress;
-use words::{TweenRead, flag_word, store_tween, tween_in, tween_of, tween_words};
+use words::{flag_word, store_tween, tween_in, tween_of, tween_words};
 
 pub fn lax_tween_new(w: &mut [u32; 18], start: f32, end: f32) -> u32
     ensures { answering result w.new ≡ accepted (lax_tween_new start end) }
@@ -49,8 +48,8 @@ fn value_in(w: &[u32; 18], out: &mut [u32; 4]) -> u32
     ensures { answering result out.new ≡ lax_tween_value w.now out.old }
 {
     match tween_of(tween_in(w)) {
-        TweenRead::Known(t) => put_found(t.value(), out),
-        TweenRead::Unknown => UNKNOWN_WORD,
+        Some(t) => put_found(t.value(), out),
+        None => UNKNOWN_WORD,
     }
 }
 
@@ -59,7 +58,7 @@ pub fn lax_tween_value(w: &[u32; 18], out: &mut [u32; 4]) -> u32
 {
     match value(w) {
         Valued::Plain(v) => put_plain(v, out),
-        Valued::Searched(found) => put_found(Eased::Value(found), out),
+        Valued::Searched(found) => put_found(Ok(found), out),
         Valued::Unsure => value_in(w, out),
     }
 }
@@ -68,8 +67,8 @@ pub fn lax_tween_progress(w: &[u32; 18], out: &mut f32) -> u32
     ensures { answering result out.new ≡ lax_tween_progress w.now out.old }
 {
     match tween_of(tween_in(w)) {
-        TweenRead::Known(t) => put_progress(t.progress(), out),
-        TweenRead::Unknown => UNKNOWN_WORD,
+        Some(t) => put_progress(t.progress(), out),
+        None => UNKNOWN_WORD,
     }
 }
 
@@ -77,8 +76,8 @@ pub fn lax_tween_eased_progress(w: &[u32; 18], out: &mut [u32; 4]) -> u32
     ensures { answering result out.new ≡ lax_tween_eased_progress w.now out.old }
 {
     match tween_of(tween_in(w)) {
-        TweenRead::Known(t) => put_found(t.eased_progress(), out),
-        TweenRead::Unknown => UNKNOWN_WORD,
+        Some(t) => put_found(t.eased_progress(), out),
+        None => UNKNOWN_WORD,
     }
 }
 
@@ -86,8 +85,8 @@ pub fn lax_tween_snapshot(w: &[u32; 18], out: &mut [u32; 5]) -> u32
     ensures { answering result out.new ≡ lax_tween_snapshot w.now out.old }
 {
     match tween_of(tween_in(w)) {
-        TweenRead::Known(t) => put_snapshot(t.snapshot(), out),
-        TweenRead::Unknown => UNKNOWN_WORD,
+        Some(t) => put_snapshot(t.snapshot(), out),
+        None => UNKNOWN_WORD,
     }
 }
 
@@ -95,8 +94,8 @@ pub fn lax_tween_playback_duration(w: &[u32; 18], out: &mut f32) -> u32
     ensures { answering result out.new ≡ lax_tween_playback_duration w.now out.old }
 {
     match tween_of(tween_in(w)) {
-        TweenRead::Known(t) => put_seconds(t.playback_duration(), out),
-        TweenRead::Unknown => UNKNOWN_WORD,
+        Some(t) => put_seconds(t.playback_duration(), out),
+        None => UNKNOWN_WORD,
     }
 }
 
@@ -104,8 +103,8 @@ pub fn lax_tween_reset(w: &mut [u32; 18]) -> u32
     ensures { answering result w.new ≡ lax_tween_reset w.old }
 {
     match tween_of(tween_in(w)) {
-        TweenRead::Known(t) => put_tween(t.reset(), w),
-        TweenRead::Unknown => UNKNOWN_WORD,
+        Some(t) => put_tween(t.reset(), w),
+        None => UNKNOWN_WORD,
     }
 }
 
@@ -113,8 +112,8 @@ pub fn lax_tween_seek(w: &mut [u32; 18], p: f32) -> u32
     ensures { answering result w.new ≡ lax_tween_seek w.old p }
 {
     match tween_of(tween_in(w)) {
-        TweenRead::Known(t) => put_tween(t.seek(Progress(p)), w),
-        TweenRead::Unknown => UNKNOWN_WORD,
+        Some(t) => put_tween(t.seek(Progress(p)), w),
+        None => UNKNOWN_WORD,
     }
 }
 
@@ -122,8 +121,8 @@ pub fn lax_tween_reverse(w: &mut [u32; 18]) -> u32
     ensures { answering result w.new ≡ lax_tween_reverse w.old }
 {
     match tween_of(tween_in(w)) {
-        TweenRead::Known(t) => put_tween(t.reverse(), w),
-        TweenRead::Unknown => UNKNOWN_WORD,
+        Some(t) => put_tween(t.reverse(), w),
+        None => UNKNOWN_WORD,
     }
 }
 
@@ -131,8 +130,8 @@ pub fn lax_tween_pause(w: &mut [u32; 18]) -> u32
     ensures { answering result w.new ≡ lax_tween_pause w.old }
 {
     match tween_of(tween_in(w)) {
-        TweenRead::Known(t) => put_tween(t.pause(), w),
-        TweenRead::Unknown => UNKNOWN_WORD,
+        Some(t) => put_tween(t.pause(), w),
+        None => UNKNOWN_WORD,
     }
 }
 
@@ -140,8 +139,8 @@ pub fn lax_tween_resume(w: &mut [u32; 18]) -> u32
     ensures { answering result w.new ≡ lax_tween_resume w.old }
 {
     match tween_of(tween_in(w)) {
-        TweenRead::Known(t) => put_tween(t.resume(), w),
-        TweenRead::Unknown => UNKNOWN_WORD,
+        Some(t) => put_tween(t.resume(), w),
+        None => UNKNOWN_WORD,
     }
 }
 
@@ -150,8 +149,8 @@ fn update_in(w: &mut [u32; 18], step: f32, out: &mut [u32; 2]) -> u32
     ensures { answering result (record { words = w.new; out = out.new }) ≡ lax_tween_update w.old step out.old }
 {
     match tween_of(tween_in(w)) {
-        TweenRead::Known(t) => match t.update(step) {
-            Updated::Ran {
+        Some(t) => match t.update(step) {
+            Ok {
                 tween,
                 folds,
                 running,
@@ -160,9 +159,9 @@ fn update_in(w: &mut [u32; 18], step: f32, out: &mut [u32; 2]) -> u32
                 *out = [folds, flag_word(running)];
                 0
             }
-            Updated::Refused { tween: _, refusal } => refusal.number(),
+            Err { tween: _, refusal } => refusal.number(),
         },
-        TweenRead::Unknown => UNKNOWN_WORD,
+        None => UNKNOWN_WORD,
     }
 }
 
@@ -171,11 +170,11 @@ pub fn lax_tween_update(w: &mut [u32; 18], step: f32, out: &mut [u32; 2]) -> u32
     ensures { answering result (record { words = w.new; out = out.new }) ≡ lax_tween_update w.old step out.old }
 {
     match step_on(w, step) {
-        Stepped::Ran { folds, running } => {
+        Some { folds, running } => {
             *out = [folds, flag_word(running)];
             0
         }
-        Stepped::Unsure => update_in(w, step, out),
+        None => update_in(w, step, out),
     }
 }
 
@@ -210,7 +209,7 @@ pub fn lax_tween_run(
     ensures { answering result (record { words = w.new; values = values.new; folds = folds.new; out = out.new }) ≡ lax_tween_run w.old steps.now values.old folds.old out.old }
 {
     match tween_of(tween_in(w)) {
-        TweenRead::Known(t) => put_run(run_steps(t, steps, values, folds), w, out),
-        TweenRead::Unknown => UNKNOWN_WORD,
+        Some(t) => put_run(run_steps(t, steps, values, folds), w, out),
+        None => UNKNOWN_WORD,
     }
 }

@@ -1,4 +1,5 @@
 -- Every value that an easing answers is finite, and at most 134,217,728 in size. Assumes nothing.
+use Rattle.std.specs.Prelude.{Err, Ok, Result}
 use Prim.Native.Nat.{ℕ, ◌≤◌}
 use mathlib.Core.Path.{refl, subst}
 use mathlib.Core.Bool.{Bool, true, false}
@@ -23,14 +24,14 @@ use Rattle.curves.proofs.Circles.{circ-at-most}
 use Rattle.bezier.specs.declared.types.Solved.{Solved}
 use Rattle.bezier.proofs.Answers.{answer-at-most}
 use Rattle.refusal.specs.declared.Refusal.TheVariants.{ProgressIsNan}
-use Rattle.easing.specs.declared.answers.Eased.{Eased}
-use Rattle.easing.specs.declared.answers.Eased.TheVariants.{Value, Refused}
 use Rattle.easing.specs.Kinds.{curve_of}
 use Rattle.easing.specs.Params.{limit_f, up_to_1024, params_of, within_of}
 use Rattle.easing.specs.Apply.{search_of, eased_at, apply_of}
 use Rattle.easing.specs.Promises.{ApplyBounded, ApplyFinite}
 use Rattle.easing.specs.declared.kinds.Easing.{Easing}
 use Rattle.easing.specs.declared.kinds.Easing.TheVariants.{Linear, EaseInQuad, EaseOutQuad, EaseInOutQuad, EaseInCubic, EaseOutCubic, EaseInOutCubic, EaseInQuart, EaseOutQuart, EaseInOutQuart, EaseInQuint, EaseOutQuint, EaseInOutQuint, EaseInSine, EaseOutSine, EaseInOutSine, EaseInExpo, EaseOutExpo, EaseInOutExpo, EaseInCirc, EaseOutCirc, EaseInOutCirc, EaseInBack, EaseOutBack, EaseInOutBack, EaseInElastic, EaseOutElastic, EaseInOutElastic, EaseInBounce, EaseOutBounce, EaseInOutBounce, CubicBezier, Steps, RoughEase, SlowMo, Wiggle, CustomBounce, ExpoScale}
+use Rattle.bezier.specs.declared.types.Found.{Found}
+use Rattle.refusal.specs.declared.Refusal.{Refusal}
 
 limit_is : Is limit_f 1024
 unfolding of_bits
@@ -88,9 +89,9 @@ module _ (u : Float) (w : Within u) where
   bounded (CustomBounce strength) h = more 290 (custom_bounce u strength) (lit≤ tt) (custom-bounce-most u w strength (finite_number strength (search (and_l, and_r))))
   bounded (ExpoScale start end) h = tt
 
-abbrev Fine : Eased → Type 0
-Fine (Value f) = AtMost 134217728 f.value
-Fine (Refused r) = Unit {0}
+abbrev Fine : Result Found Refusal → Type 0
+Fine (Ok f) = AtMost 134217728 f.value
+Fine (Err r) = Unit {0}
 
 eased-fine : (c : Option (Float → Float)) (search : Float → Solved) (fine : Bool) (u : Float) → (T fine → Bounded c u) → Fine (eased_at c search fine u)
 eased-fine none search fine u h = tt
@@ -100,7 +101,7 @@ eased-fine (some f) search false u h = tt
 apply-fine : (e : Easing) (t : Float) → Fine (apply_of e t)
 unfolding apply_of
 apply-fine e t =
-    by-test Fine (is_nan t) (Refused ProgressIsNan) (eased_at (curve_of e) (search_of e) (within_of (params_of e)) (clamp01_of t)) (λ _. tt)
+    by-test Fine (is_nan t) (Err ProgressIsNan) (eased_at (curve_of e) (search_of e) (within_of (params_of e)) (clamp01_of t)) (λ _. tt)
     (λ h. eased-fine (curve_of e) (search_of e) (within_of (params_of e)) (clamp01_of t) (bounded (clamp01_of t) (clamped t h) e))
 
 pub apply-bounded : ApplyBounded

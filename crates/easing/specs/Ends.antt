@@ -1,15 +1,15 @@
 -- Document 01, "What is ported" and "Easing": the 26 kinds of the list, and "The source's head says each named kind gives 0 at 0 and 1 at 1. Prove it for the 26 at their `all_named` parameters; an exception is listed".
-use Rattle.std.specs.Prelude.{ℕ, ◌<◌, ◌≡◌, Bool, true, false, ◌&&◌, cond, eqb, length, get_or, Float}
+use Rattle.std.specs.Prelude.{ℕ, ◌<◌, ◌≡◌, Bool, true, false, ◌&&◌, cond, eqb, length, get_or, Float, Err, Ok, Result}
 use mathlib.Core.List.{List, [], ◌∷◌, map, Memᴰ}
 use Rattle.std.specs.Float.Ieee.{eq}
 use Rattle.math.specs.Bits.{bits_of}
 use Rattle.math.specs.Rounded.{zero_f, one_f}
 use Rattle.easing.specs.declared.kinds.Easing.{Easing}
 use Rattle.easing.specs.declared.kinds.Easing.TheVariants.{Linear}
-use Rattle.easing.specs.declared.answers.Eased.{Eased}
-use Rattle.easing.specs.declared.answers.Eased.TheVariants.{Value, Refused}
 use Rattle.easing.specs.Kinds.{number_of, supplied_of, all_named}
 use Rattle.easing.specs.Apply.{apply_of}
+use Rattle.bezier.specs.declared.types.Found.{Found}
+use Rattle.refusal.specs.declared.Refusal.{Refusal}
 
 -- the supplied part of a list of kinds
 abbrev pub supplied_in : List Easing → List Easing
@@ -25,9 +25,9 @@ abbrev pub Numbered : Type 0
 Numbered = (length all_named ≡ 38) × ((k : ℕ) → k < length all_named → number_of (get_or all_named k Linear) ≡ k)
 
 -- the answer is a value, and equal to v; a zero of either sign is 0
-abbrev pub equals : Eased → Float → Bool
-equals (Value f) v = eq f.value v
-equals (Refused r) v = false
+abbrev pub equals : Result Found Refusal → Float → Bool
+equals (Ok f) v = eq f.value v
+equals (Err r) v = false
 
 -- 0 at 0, and 1 at 1
 abbrev pub ended : Easing → Bool
@@ -38,9 +38,9 @@ abbrev pub Ends : Type 0
 Ends = (e : Easing) → Memᴰ e (supplied_in all_named) → ended e ≡ true
 
 -- by bits; 1, which is no zero's pattern, for a refusal
-abbrev pub bits : Eased → ℕ
-bits (Value f) = bits_of f.value
-bits (Refused r) = 1
+abbrev pub bits : Result Found Refusal → ℕ
+bits (Ok f) = bits_of f.value
+bits (Err r) = 1
 
 abbrev pub at : Float → List Easing → List ℕ
 at t [] = []

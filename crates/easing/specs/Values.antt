@@ -1,5 +1,5 @@
 -- Document 01's answers without request 1's mark: the values alone, or the refusal.
-use Rattle.std.specs.Prelude.{◌≡◌, Bool, ◌⊎◌, Float}
+use Rattle.std.specs.Prelude.{◌≡◌, Bool, ◌⊎◌, Float, Err, Ok, Result}
 use Rattle.std.proofs.Common.{inl, inr}
 use Rattle.std.proofs.Math.Option.{Option, none, some}
 use Rattle.std.specs.Float.Ieee.{is_nan}
@@ -8,16 +8,15 @@ use Rattle.refusal.specs.declared.Refusal.{Refusal}
 use Rattle.refusal.specs.declared.Refusal.TheVariants.{ProgressIsNan, EasingNotSupplied, EasingParameter}
 use Rattle.refusal.specs.Refusing.{unless, when}
 use Rattle.easing.specs.declared.kinds.Easing.{Easing}
-use Rattle.easing.specs.declared.answers.Eased.{Eased}
-use Rattle.easing.specs.declared.answers.Eased.TheVariants.{Value, Refused}
 use Rattle.easing.specs.Kinds.{curve_of}
 use Rattle.easing.specs.Params.{params_of, within_of}
 use Rattle.easing.specs.Apply.{apply_of}
+use Rattle.bezier.specs.declared.types.Found.{Found}
 
 -- what is left of an answer without the search behind it
-abbrev pub value_part : Eased → Refusal ⊎ Float
-value_part (Value f) = inr f.value
-value_part (Refused r) = inl r
+abbrev pub value_part : Result Found Refusal → Refusal ⊎ Float
+value_part (Ok f) = inr f.value
+value_part (Err r) = inl r
 
 abbrev pub curve_alone : Option (Float → Float) → Bool → Float → Refusal ⊎ Float
 curve_alone none fine t = inl EasingNotSupplied

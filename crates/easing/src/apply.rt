@@ -3,7 +3,6 @@ ghost use Rattle.std.specs.Prelude.{◌≡◌};
 ghost use Rattle.bezier.specs.Bezier.{plain_of};
 ghost use Rattle.easing.specs.Apply.{limited_of, apply_of};
 
-use crate::answers::Eased;
 use crate::kinds::Easing;
 use crate::params::{params_of, within};
 use bezier::Found;
@@ -11,30 +10,30 @@ use refusal::Refusal;
 use units::Progress;
 
 // A curve without a search.
-fn plain(value: f32) -> Eased
-    ensures { result ≡ Eased.Value (plain_of value) }
+fn plain(value: f32) -> Result<Found, Refusal>
+    ensures { result ≡ Ok (plain_of value) }
 {
-    Eased::Value(Found::plain(value))
+    Ok(Found::plain(value))
 }
 
 // `fine` says whether the parameters are within their limits.
-fn limited(fine: bool, found: Found) -> Eased
+fn limited(fine: bool, found: Found) -> Result<Found, Refusal>
     ensures { result ≡ limited_of fine found }
 {
     if fine {
-        Eased::Value(found)
+        Ok(found)
     } else {
-        Eased::Refused(Refusal::EasingParameter)
+        Err(Refusal::EasingParameter)
     }
 }
 
 impl Easing {
     // t is clamped to 0..1. Refused: 1 where t is NaN, 2 for the twelve kinds, 3 for a parameter.
-    pub fn apply(self, t: Progress) -> Eased
+    pub fn apply(self, t: Progress) -> Result<Found, Refusal>
         ensures { result ≡ apply_of self t.0 }
     {
         if math::is_nan(t.0) {
-            return Eased::Refused(Refusal::ProgressIsNan);
+            return Err(Refusal::ProgressIsNan);
         }
         let u = math::clamp01(t.0);
         match self {
@@ -76,7 +75,7 @@ impl Easing {
                 within(params_of(self)),
                 Found::plain(curves::custom_bounce(u, strength)),
             ),
-            _ => Eased::Refused(Refusal::EasingNotSupplied),
+            _ => Err(Refusal::EasingNotSupplied),
         }
     }
 }

@@ -24,34 +24,34 @@ pub enum Searched {
 }
 
 // The curve of a plain kind.
-pub fn draw(kind: u32, u: f32) -> Drawn
+pub fn draw(kind: u32, u: f32) -> Option<f32>
     requires { Within u }
     ensures { result ≡ draw_of kind u }
 {
     match kind {
-        0 => Drawn::At(u),
-        1 => Drawn::At(curves::ease_in_quad(u)),
-        2 => Drawn::At(curves::ease_out_quad(u)),
-        3 => Drawn::At(curves::ease_in_out_quad(u)),
-        4 => Drawn::At(curves::ease_in_cubic(u)),
-        5 => Drawn::At(curves::ease_out_cubic(u)),
-        6 => Drawn::At(curves::ease_in_out_cubic(u)),
-        7 => Drawn::At(curves::ease_in_quart(u)),
-        8 => Drawn::At(curves::ease_out_quart(u)),
-        9 => Drawn::At(curves::ease_in_out_quart(u)),
-        10 => Drawn::At(curves::ease_in_quint(u)),
-        11 => Drawn::At(curves::ease_out_quint(u)),
-        12 => Drawn::At(curves::ease_in_out_quint(u)),
-        19 => Drawn::At(curves::ease_in_circ(u)),
-        20 => Drawn::At(curves::ease_out_circ(u)),
-        21 => Drawn::At(curves::ease_in_out_circ(u)),
-        22 => Drawn::At(curves::ease_in_back(u)),
-        23 => Drawn::At(curves::ease_out_back(u)),
-        24 => Drawn::At(curves::ease_in_out_back(u)),
-        28 => Drawn::At(curves::ease_in_bounce(u)),
-        29 => Drawn::At(curves::ease_out_bounce(u)),
-        30 => Drawn::At(curves::ease_in_out_bounce(u)),
-        _ => Drawn::Other,
+        0 => Some(u),
+        1 => Some(curves::ease_in_quad(u)),
+        2 => Some(curves::ease_out_quad(u)),
+        3 => Some(curves::ease_in_out_quad(u)),
+        4 => Some(curves::ease_in_cubic(u)),
+        5 => Some(curves::ease_out_cubic(u)),
+        6 => Some(curves::ease_in_out_cubic(u)),
+        7 => Some(curves::ease_in_quart(u)),
+        8 => Some(curves::ease_out_quart(u)),
+        9 => Some(curves::ease_in_out_quart(u)),
+        10 => Some(curves::ease_in_quint(u)),
+        11 => Some(curves::ease_out_quint(u)),
+        12 => Some(curves::ease_in_out_quint(u)),
+        19 => Some(curves::ease_in_circ(u)),
+        20 => Some(curves::ease_out_circ(u)),
+        21 => Some(curves::ease_in_out_circ(u)),
+        22 => Some(curves::ease_in_back(u)),
+        23 => Some(curves::ease_out_back(u)),
+        24 => Some(curves::ease_in_out_back(u)),
+        28 => Some(curves::ease_in_bounce(u)),
+        29 => Some(curves::ease_out_bounce(u)),
+        30 => Some(curves::ease_in_out_bounce(u)),
+        _ => None,
     }
 }
 
@@ -80,18 +80,18 @@ pub fn holds(kind: u32, a: u32, b: u32, c: u32, d: u32) -> bool
 }
 
 // CubicBezier, by the words of its kind and parameters.
-pub fn search(kind: u32, a: u32, b: u32, c: u32, d: u32, u: f32) -> Searched
+pub fn search(kind: u32, a: u32, b: u32, c: u32, d: u32, u: f32) -> Option<Found>
     ensures { result ≡ searched_of kind (f32 a) (f32 b) (f32 c) (f32 d) u }
 {
     if kind != 31 {
-        return Searched::Other;
+        return None;
     }
     let x1 = of_bits(a);
     let y1 = of_bits(b);
     let x2 = of_bits(c);
     let y2 = of_bits(d);
     if fits(x1, y1, x2, y2) {
-        return Searched::At(bezier::cubic_bezier(u, x1, y1, x2, y2));
+        return Some(bezier::cubic_bezier(u, x1, y1, x2, y2));
     }
-    Searched::Other
+    None
 }

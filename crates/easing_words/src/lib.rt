@@ -3,4 +3,4 @@
 
 mod drawing;
 
-pub use drawing::{Drawn, Searched, draw, holds, search};
+pub use drawing::{draw, holds, search};

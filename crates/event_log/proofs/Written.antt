@@ -1,4 +1,5 @@
 -- What the calls write is a log, and they write nothing else. Assumes nothing.
+use Rattle.std.specs.Prelude.{Err, Ok, Result}
 use Rattle.std.proofs.Common.{◌≡◌, ℕ, ◌+◌, ◌-◌, ◌*◌, ◌%◌, ◌≤◌, Bool, true, false, not, T, leb, List, [], ◌∷◌, ◌++◌, length, take, drop, sym, refl, ap, ◌∙◌, append_assoc, append-nil, zero-add, arith, length-append, length-drop, drop-drop, le-leb, leb-true}
 use mathlib.Core.Bool.{false≢true}
 use native.Mathlib.Nat.{mod-add-mod, mul-mod_right}
@@ -10,14 +11,13 @@ use Rattle.math.specs.Lists.{every}
 use Rattle.math.proofs.Choice.{by-test, and_both}
 use Rattle.refusal.specs.declared.Refusal.TheVariants.{NoRoom}
 use Rattle.event_log.specs.declared.event.Event.{Event}
-use Rattle.event_log.specs.declared.writer.Logged.{Logged}
-use Rattle.event_log.specs.declared.writer.Logged.TheVariants.{Written, Refused}
 use Rattle.event_log.specs.Format.{mark, version, head, record_of, records_from, log_of, starts_with}
 use Rattle.event_log.specs.Writing.{Writing, refused, wrote, head_in, is_long, is_backward, is_whole, number_behind, record_in, may_be_logged, records_in, Keeps}
 use Rattle.event_log.specs.Promises.{LogMore, WritesLog, HeadKeeps, RecordKeeps, RefusedStays}
 use Rattle.event_log.proofs.Logs.{length-log, log-number, records-more}
 use Rattle.event_log.proofs.Refusals.{a-head, a-record}
 use Rattle.event_log.proofs.Places.{put_keeps, same-keeps}
+use Rattle.refusal.specs.declared.Refusal.{Refusal}
 
 pub head-keeps : HeadKeeps
 unfolding head_in
@@ -39,15 +39,15 @@ record-keeps buffer written e =
     by-test K (leb (written + 8) (length buffer)) _ _ (λ h. put_keeps buffer written (record_of (number_behind log) e) (leb-true _ _ h))
     (λ _. same)) (λ _. same)) (λ _. same)) (λ _. same)) (λ _. same)))
 
-is_refused : Logged → Bool
-is_refused (Written n) = false
-is_refused (Refused r) = true
+is_refused : Result ℕ Refusal → Bool
+is_refused (Ok n) = false
+is_refused (Err r) = true
 
 pub refused-stays : RefusedStays
 unfolding record_in is_refused
 refused-stays buffer written e r =
     let log = take written buffer in
-    let K : Writing → Type 0 = λ w. w.answer ≡ Refused r → w.buffer ≡ buffer in
+    let K : Writing → Type 0 = λ w. w.answer ≡ Err r → w.buffer ≡ buffer in
     by-test K (is_long e) _ _ (λ _ _. refl) (λ _.
     by-test K (is_backward e) _ _ (λ _ _. refl) (λ _.
     by-test K (leb written (length buffer)) _ _ (λ _.

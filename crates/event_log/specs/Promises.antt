@@ -1,12 +1,11 @@
 -- Request 2, "Write the event log": what holds of every log, and of every call. Each sentence is a type; its proof has its name in small letters.
-use Rattle.std.specs.Prelude.{◌≡◌, ℕ, ◌+◌, ◌*◌, ◌%◌, ◌<◌, ◌≤◌, true, T, List, [], ◌∷◌, ◌++◌, length, drop}
+use Rattle.std.specs.Prelude.{◌≡◌, ℕ, ◌+◌, ◌*◌, ◌%◌, ◌<◌, ◌≤◌, true, T, List, [], ◌∷◌, ◌++◌, length, drop, Err}
 use Rattle.math.specs.Lists.{every}
 use Rattle.math.specs.Rounded.{f32}
 use Rattle.refusal.specs.declared.Refusal.{Refusal}
 use Rattle.refusal.specs.declared.Refusal.TheVariants.{NoRoom}
 use Rattle.event_log.specs.declared.event.Event.{Event}
 use Rattle.event_log.specs.declared.event.Event.TheVariants.{Step, Pause, Resume, Reset}
-use Rattle.event_log.specs.declared.writer.Logged.TheVariants.{Refused}
 use Rattle.event_log.specs.Format.{head, next, record_of, log_of}
 use Rattle.event_log.specs.Writing.{refused, wrote, head_in, number_at, number_behind, record_in, may_be_logged, records_in, Keeps}
 
@@ -60,5 +59,5 @@ NoHead = (buffer : List ℕ) → length buffer < 5 → head_in buffer ≡ refuse
 
 abbrev pub RefusedStays : Type 0
 RefusedStays =
-    (buffer : List ℕ) (written : ℕ) (e : Event) (r : Refusal) → (record_in buffer written e).answer ≡ Refused r
+    (buffer : List ℕ) (written : ℕ) (e : Event) (r : Refusal) → (record_in buffer written e).answer ≡ Err r
     → (record_in buffer written e).buffer ≡ buffer

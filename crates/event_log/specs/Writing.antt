@@ -1,5 +1,5 @@
 -- Request 2, "Write the event log": the two calls, and their refusals in their order.
-use Rattle.std.specs.Prelude.{◌≡◌, ℕ, ◌+◌, ◌-◌, ◌%◌, ◌<◌, ◌≤◌, Bool, cond, not, ◌&&◌, ◌||◌, ◌⊎◌, List, [], ◌∷◌, ◌++◌, length, take, drop, ◌==◌, is_nan, nat_le, slice_index}
+use Rattle.std.specs.Prelude.{◌≡◌, ℕ, ◌+◌, ◌-◌, ◌%◌, ◌<◌, ◌≤◌, Bool, cond, not, ◌&&◌, ◌||◌, ◌⊎◌, List, [], ◌∷◌, ◌++◌, length, take, drop, ◌==◌, is_nan, nat_le, slice_index, Err, Ok, Result}
 use Rattle.std.specs.Float.Ieee.{lt}
 use Rattle.math.specs.Bytes.{low_at}
 use Rattle.math.specs.Rounded.{zero_f, top_f}
@@ -7,24 +7,22 @@ use Rattle.refusal.specs.declared.Refusal.{Refusal}
 use Rattle.refusal.specs.declared.Refusal.TheVariants.{StepTooLong, NoRoom, StepBelowZero, WrongMark, UnknownVersion, WrongLength}
 use Rattle.refusal.specs.Refusing.{unless, when}
 use Rattle.event_log.specs.declared.event.Event.{Event}
-use Rattle.event_log.specs.declared.writer.Logged.{Logged}
-use Rattle.event_log.specs.declared.writer.Logged.TheVariants.{Written, Refused}
 use Rattle.event_log.specs.Format.{mark, version, head, step_of, next, record_of, starts_with}
 
 -- what a call leaves: its answer, and every byte of the buffer
 pub record Writing : Type 0 where
-  pub answer : Logged
+  pub answer : Result ℕ Refusal
   pub buffer : List ℕ
 
 -- nothing is written
 abbrev pub refused : List ℕ → Refusal → Writing
-refused buffer r = record { answer = Refused r; buffer = buffer }
+refused buffer r = record { answer = Err r; buffer = buffer }
 
 -- bytes behind the first `written`; "other bytes stay"
 abbrev pub wrote : List ℕ → ℕ → List ℕ → Writing
 wrote buffer written new =
     record {
-      answer = Written (written + length new);
+      answer = Ok (written + length new);
       buffer = take written buffer ++ new ++ drop (written + length new) buffer;
     }
 
@@ -73,9 +71,9 @@ may_be_logged e = not (is_long e) && not (is_backward e)
 abbrev pub go_on : Writing → (List ℕ → ℕ → Writing) → Writing
 go_on w call = answered w.answer
   where
-    answered : Logged → Writing
-    answered (Written n) = call w.buffer n
-    answered (Refused r) = w
+    answered : Result ℕ Refusal → Writing
+    answered (Ok n) = call w.buffer n
+    answered (Err r) = w
 
 -- a record for each of the events
 unfoldable pub records_in : List Event → Writing → Writing

@@ -7,4 +7,4 @@ mod writer;
 
 pub use event::Event;
 pub use head::{has_mark, has_version};
-pub use writer::{Logged, write_head, write_record};
+pub use writer::{write_head, write_record};

@@ -14,16 +14,16 @@ pub enum Logged {
 }
 
 // The head, at the buffer's start. Refused: 13 where the buffer is shorter than 5 bytes.
-pub fn write_head(buffer: &mut [u8]) -> Logged
+pub fn write_head(buffer: &mut [u8]) -> Result<usize, Refusal>
     ensures answer { result ≡ (head_in buffer.old).answer }
     ensures bytes { buffer.new ≡ (head_in buffer.old).buffer }
 {
     if buffer.len() < 5 {
-        return Logged::Refused(Refusal::NoRoom);
+        return Err(Refusal::NoRoom);
     }
     let head = [b'P', b'E', b'L', 1, 0];
     buffer[..5].copy_from_slice(&head);
-    Logged::Written(5)
+    Ok(5)
 }
 
 // The number of the record that goes behind a log.
@@ -40,33 +40,33 @@ fn number_behind(log: &[u8]) -> u16
 
 // One record, behind the first `written` bytes of the buffer. Refused: 5; 14; 17 where `written` is beyond
 // the buffer; 15; 16; 17; 13.
-pub fn write_record(buffer: &mut [u8], written: usize, event: Event) -> Logged
+pub fn write_record(buffer: &mut [u8], written: usize, event: Event) -> Result<usize, Refusal>
     ensures answer { result ≡ (record_in buffer.old written event).answer }
     ensures bytes { buffer.new ≡ (record_in buffer.old written event).buffer }
 {
     let step = event.step();
     if step > 16777216.0 {
-        return Logged::Refused(Refusal::StepTooLong);
+        return Err(Refusal::StepTooLong);
     }
     if math::is_nan(step) | (step < 0.0) {
-        return Logged::Refused(Refusal::StepBelowZero);
+        return Err(Refusal::StepBelowZero);
     }
     if written > buffer.len() {
-        return Logged::Refused(Refusal::WrongLength);
+        return Err(Refusal::WrongLength);
     }
     if !has_mark(&buffer[..written]) {
-        return Logged::Refused(Refusal::WrongMark);
+        return Err(Refusal::WrongMark);
     }
     if !has_version(&buffer[..written]) {
-        return Logged::Refused(Refusal::UnknownVersion);
+        return Err(Refusal::UnknownVersion);
     }
     if (written - 5) % 8 != 0 {
-        return Logged::Refused(Refusal::WrongLength);
+        return Err(Refusal::WrongLength);
     }
     if buffer.len() - written < 8 {
-        return Logged::Refused(Refusal::NoRoom);
+        return Err(Refusal::NoRoom);
     }
     let next = record(number_behind(&buffer[..written]), event);
     buffer[written..written + 8].copy_from_slice(&next);
-    Logged::Written(written + 8)
+    Ok(written + 8)
 }

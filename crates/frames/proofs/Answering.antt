@@ -1,4 +1,5 @@
 -- Between two frames within their limits, at a time from 0 to 16,777,216, the easing answers: that a refusal counts as 0 never shows. Assumes nothing.
+use Rattle.std.specs.Prelude.{Ok}
 use mathlib.Core.Path.{◌≡◌}
 use mathlib.Core.Bool.{true, false}
 use lib.Ieee.{Float, is_nan}
@@ -6,7 +7,6 @@ use denote.Floats.{passes as holds}
 use Rattle.math.specs.Rounded.{one_f}
 use Rattle.math.proofs.Order.{le-numbers}
 use Rattle.easing.specs.declared.kinds.Easing.{Easing}
-use Rattle.easing.specs.declared.answers.Eased.TheVariants.{Value}
 use Rattle.easing.specs.Apply.{apply_of, fits_record_of}
 use Rattle.frames.specs.Sampling.{local_progress, eased_of}
 use Rattle.frames.specs.Promises.{BetweenAnswers}
@@ -15,7 +15,7 @@ use Rattle.frames.proofs.Clocks.{time-clock}
 use Rattle.frames.proofs.Samples.{local-within}
 use Rattle.easing.proofs.Answering.{fits-answers}
 
-eased-answers : (e : Easing) (p : Float) → fits_record_of e ≡ true → is_nan p ≡ false → apply_of e p ≡ Value (eased_of e p)
+eased-answers : (e : Easing) (p : Float) → fits_record_of e ≡ true → is_nan p ≡ false → apply_of e p ≡ Ok (eased_of e p)
 eased-answers e p h n =
     let k = fits-answers e p (holds (fits_record_of e) h) n in
     rw k.1

@@ -1,4 +1,5 @@
 -- Samples: before and after all frames, that every sample is finite, and that no more can be unsettled than there are. Assumes nothing.
+use Rattle.std.specs.Prelude.{Err, Ok, Result}
 use Prim.Native.Nat.{ℕ, ◌-◌, ◌<◌, ◌≤◌}
 use mathlib.Core.Path.{◌≡◌, refl}
 use mathlib.Core.Bool.{true, false}
@@ -22,8 +23,6 @@ use Rattle.math.proofs.Ranges.{clamped}
 use Rattle.math.proofs.Wholes.{power-is}
 use Rattle.bezier.specs.declared.types.Found.{Found}
 use Rattle.easing.specs.declared.kinds.Easing.{Easing}
-use Rattle.easing.specs.declared.answers.Eased.{Eased}
-use Rattle.easing.specs.declared.answers.Eased.TheVariants.{Value, Refused}
 use Rattle.easing.specs.Apply.{apply_of}
 use Rattle.easing.proofs.Finite.{apply-bounded}
 use Rattle.frames.specs.declared.frame.Keyframe.{Keyframe}
@@ -34,6 +33,7 @@ use Rattle.frames.proofs.Rising.{each-fine, rising, time-fine, time-number, valu
 use Rattle.frames.proofs.Clocks.{Clock, clock-most, time-clock}
 use Rattle.frames.proofs.Walks.{lead-some, lead-below}
 use Rattle.frames.proofs.Counts.{count_most}
+use Rattle.refusal.specs.declared.Refusal.{Refusal}
 
 epsilon-finite : T (is_finite epsilon_f)
 unfolding of_bits
@@ -63,9 +63,9 @@ value-bound k f = value-most k.value (holds (is_value k.value) (value-fine k f))
 eased-most : (e : Easing) (p : Float) → AtMost 134217728 (eased_of e p).value
 eased-most e p = go (apply_of e p) refl
   where
-    go : (r : Eased) → apply_of e p ≡ r → AtMost 134217728 (found_in r).value
-    go (Value f) h = apply-bounded e p f h
-    go (Refused r) h = zero-most 134217728
+    go : (r : Result Found Refusal) → apply_of e p ≡ r → AtMost 134217728 (found_in r).value
+    go (Ok f) h = apply-bounded e p f h
+    go (Err r) h = zero-most 134217728
 
 abbrev Bounded : Found → Type 0
 Bounded f = AtMost 9007199254740992 f.value

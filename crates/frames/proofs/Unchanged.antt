@@ -1,4 +1,5 @@
 -- The mark changes no value: a sample's value is document 01's, and so is what a batch writes. Assumes nothing.
+use Rattle.std.specs.Prelude.{Err, Ok, Result}
 use Prim.Native.Nat.{◌-◌}
 use mathlib.Core.Path.{◌≡◌, refl, ap, ◌∙◌}
 use mathlib.Core.Bool.{cond}
@@ -11,8 +12,6 @@ use Rattle.math.specs.Blend.{blend_of}
 use Rattle.math.proofs.Choice.{of-picked}
 use Rattle.bezier.specs.declared.types.Found.{Found}
 use Rattle.easing.specs.declared.kinds.Easing.{Easing}
-use Rattle.easing.specs.declared.answers.Eased.{Eased}
-use Rattle.easing.specs.declared.answers.Eased.TheVariants.{Value, Refused}
 use Rattle.easing.specs.Apply.{apply_of}
 use Rattle.easing.specs.Values.{value_part, apply_alone}
 use Rattle.easing.proofs.Unchanged.{apply-unchanged}
@@ -20,6 +19,7 @@ use Rattle.frames.specs.declared.frame.Keyframe.{Keyframe}
 use Rattle.frames.specs.Limits.{no_frame}
 use Rattle.frames.specs.Sampling.{first_of, last_of, cut_of, found_in, eased_of, local_progress, between_of, frames_up_to, own_of, pick_of, at_of, sample_of, filled_of}
 use Rattle.frames.specs.Values.{value_in, between_alone, pick_alone, sample_alone, filled_alone, SampleUnchanged}
+use Rattle.refusal.specs.declared.Refusal.{Refusal}
 
 abbrev value : Found → Float
 value f = f.value
@@ -27,9 +27,9 @@ value f = f.value
 eased-unchanged : (e : Easing) (p : Float) → (eased_of e p).value ≡ value_in (apply_alone e p)
 eased-unchanged e p = go (apply_of e p) ∙ ap value_in (apply-unchanged e p)
   where
-    go : (r : Eased) → (found_in r).value ≡ value_in (value_part r)
-    go (Value f) = refl
-    go (Refused r) = refl
+    go : (r : Result Found Refusal) → (found_in r).value ≡ value_in (value_part r)
+    go (Ok f) = refl
+    go (Err r) = refl
 
 between-unchanged : (k l : Keyframe) (t : Float) → (between_of k l t).value ≡ between_alone k l t
 unfolding between_of between_alone

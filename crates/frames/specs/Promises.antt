@@ -1,8 +1,7 @@
 -- Document 01, "Records and their limits" and "The track": what holds of every push and of every sample. Each sentence is a type; its proof has its name in small letters.
-use Rattle.std.specs.Prelude.{ℕ, ◌+◌, ◌<◌, ◌≤◌, ◌≡◌, true, false, List, T, length, get_or, Float}
+use Rattle.std.specs.Prelude.{ℕ, ◌+◌, ◌<◌, ◌≤◌, ◌≡◌, true, false, List, T, length, get_or, Float, Ok}
 use Rattle.std.specs.Float.Ieee.{lt, le}
 use Rattle.math.specs.Rounded.{zero_f, top_f}
-use Rattle.easing.specs.declared.answers.Eased.TheVariants.{Value}
 use Rattle.easing.specs.Apply.{apply_of}
 use Rattle.frames.specs.declared.frame.Keyframe.{Keyframe}
 use Rattle.frames.specs.Limits.{frame_within, frames_after, frames_within, no_frame}
@@ -30,7 +29,7 @@ abbrev pub BetweenAnswers : Type 0
 BetweenAnswers =
     (k l : Keyframe) (t : Float) → frame_within k ≡ true → frame_within l ≡ true → T (le zero_f t) × T (le t top_f)
     → let p = local_progress k.time l.time t in
-    apply_of k.easing p ≡ Value (eased_of k.easing p)
+    apply_of k.easing p ≡ Ok (eased_of k.easing p)
 
 -- Request 1: of the samples of a batch at most all are not settled
 abbrev pub UnsettledMost : Type 0

@@ -1,5 +1,5 @@
 -- Document 01, "The track": a frame pushed among others.
-use Rattle.std.specs.Prelude.{ℕ, true, false, cond, List, [], ◌∷◌, ◌++◌, leb, length, take, drop}
+use Rattle.std.specs.Prelude.{ℕ, Option, Some, None, cond, List, [], ◌∷◌, ◌++◌, leb, length, take, drop}
 use Rattle.std.specs.Float.Ieee.{lt, eq}
 use Rattle.frames.specs.declared.frame.Keyframe.{Keyframe}
 use Rattle.frames.specs.declared.frame.Put.{Put}
@@ -9,10 +9,8 @@ unfoldable pub pushed_of : Keyframe → List Keyframe → List Keyframe
 pushed_of k [] = k ∷ []
 pushed_of k (f ∷ fs) = cond (lt f.time k.time) (f ∷ pushed_of k fs) (cond (eq f.time k.time) (k ∷ fs) (k ∷ f ∷ fs))
 
--- "keep .. the places behind the frames"; full where the frames were 64 and none had the time
-unfoldable pub put_of : List Keyframe → ℕ → Keyframe → Put
+-- "keep .. the places behind the frames"; none where the frames were 64 and none had the time
+unfoldable pub put_of : List Keyframe → ℕ → Keyframe → Option Put
 put_of fs n k =
     let l = pushed_of k (take n fs) in
-    cond (leb (length l) 64)
-    (record { frames = l ++ drop (length l) fs; count = length l; full = false })
-    (record { frames = fs; count = n; full = true })
+    cond (leb (length l) 64) (Some (record { frames = l ++ drop (length l) fs; count = length l })) None

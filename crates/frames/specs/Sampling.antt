@@ -1,5 +1,5 @@
 -- Document 01, "The track": the value of frames at a time in seconds, and by request 1 the search behind it.
-use Rattle.std.specs.Prelude.{ℕ, suc, ◌-◌, Bool, not, cond, List, [], ◌∷◌, ◌++◌, map, eqb, length, drop, get_or, Float}
+use Rattle.std.specs.Prelude.{ℕ, suc, ◌-◌, Bool, not, cond, List, [], ◌∷◌, ◌++◌, map, eqb, length, drop, get_or, Float, Err, Ok, Result}
 use Rattle.std.specs.Float.Ieee.{lt, le}
 use Rattle.math.specs.Rounded.{◌⊖◌, ◌⊘◌, zero_f, epsilon_f}
 use Rattle.math.specs.Range.{clamp01_of, max_zero_of}
@@ -7,11 +7,10 @@ use Rattle.math.specs.Blend.{blend_of}
 use Rattle.bezier.specs.declared.types.Found.{Found}
 use Rattle.bezier.specs.Bezier.{plain_of, with_value}
 use Rattle.easing.specs.declared.kinds.Easing.{Easing}
-use Rattle.easing.specs.declared.answers.Eased.{Eased}
-use Rattle.easing.specs.declared.answers.Eased.TheVariants.{Value, Refused}
 use Rattle.easing.specs.Apply.{apply_of}
 use Rattle.frames.specs.declared.frame.Keyframe.{Keyframe}
 use Rattle.frames.specs.Limits.{no_frame}
+use Rattle.refusal.specs.declared.Refusal.{Refusal}
 
 abbrev pub first_of : List Keyframe → Keyframe
 first_of l = get_or l 0 no_frame
@@ -32,9 +31,9 @@ abbrev pub span_of : Float → Float
 span_of d = cond (lt epsilon_f d) d epsilon_f
 
 -- a refusal counts as 0, settled; no easing of a frame within limits refuses
-abbrev pub found_in : Eased → Found
-found_in (Value f) = f
-found_in (Refused r) = plain_of zero_f
+abbrev pub found_in : Result Found Refusal → Found
+found_in (Ok f) = f
+found_in (Err r) = plain_of zero_f
 
 abbrev pub eased_of : Easing → Float → Found
 eased_of e p = found_in (apply_of e p)

@@ -9,10 +9,9 @@ pub struct Keyframe {
     pub easing: Easing,
 }
 
-// full: the frame found no place, and the frames are those that came in.
+// The frames with one more among them, or with one replaced.
 #[derive(Clone, Copy)]
 pub struct Put {
     pub frames: [Keyframe; 64],
     pub count: usize,
-    pub full: bool,
 }

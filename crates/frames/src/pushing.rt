@@ -37,8 +37,9 @@ fn insert(frames: [Keyframe; 64], n: usize, p: usize, k: Keyframe) -> [Keyframe;
     g
 }
 
-// A frame at k's time is replaced; the places behind the frames keep what they hold.
-pub fn put(frames: [Keyframe; 64], n: usize, k: Keyframe) -> Put
+// A frame at k's time is replaced; the places behind the frames keep what they hold. None where there
+// are 64 frames, and none of them at k's time.
+pub fn put(frames: [Keyframe; 64], n: usize, k: Keyframe) -> Option<Put>
     requires { n ≤ 64 }
     ensures { result ≡ put_of frames n k }
 {
@@ -47,24 +48,18 @@ pub fn put(frames: [Keyframe; 64], n: usize, k: Keyframe) -> Put
         if frames[p].time == k.time {
             let mut g = frames;
             g[p] = k;
-            return Put {
+            return Some(Put {
                 frames: g,
                 count: n,
-                full: false,
-            };
+            });
         }
     }
     if n < 64 {
         let g = insert(frames, n, p, k);
-        return Put {
+        return Some(Put {
             frames: g,
             count: n + 1,
-            full: false,
-        };
+        });
     }
-    Put {
-        frames,
-        count: n,
-        full: true,
-    }
+    None
 }

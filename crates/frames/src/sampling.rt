@@ -4,7 +4,7 @@ ghost use Rattle.frames.specs.Sampling.{cut_of, span_of, local_progress, eased_o
 
 use crate::frame::Keyframe;
 use bezier::Found;
-use easing::{Eased, Easing};
+use easing::Easing;
 use units::Progress;
 
 // x, and top from there on; top where x is a NaN.
@@ -26,8 +26,8 @@ pub fn eased(e: Easing, p: f32) -> Found
     ensures { result ≡ eased_of e p }
 {
     match e.apply(Progress(p)) {
-        Eased::Value(found) => found,
-        Eased::Refused(_) => Found::plain(0.0),
+        Ok(found) => found,
+        Err(_) => Found::plain(0.0),
     }
 }
 

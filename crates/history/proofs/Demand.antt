@@ -1,4 +1,5 @@
 -- Demand 3: what a history of updates, pauses and resumes comes to, with A = s times (H - W). Assumes nothing.
+use Rattle.std.specs.Prelude.{None, Ok, Option, Result, Some, Err}
 use Prim.Native.Nat.{ℕ, ◌+◌, ◌-◌, ◌*◌, ◌/◌, ◌≤◌, ◌<◌}
 use native.Mathlib.Nat.{le-div_iff_mul-le, div-eq_of_lt-le}
 use native.Mathlib.Omega.{arith}
@@ -9,16 +10,11 @@ use borrow.Author.Tests.{le-leb, lt-leb}
 use Rattle.math.specs.Rounded.{whole_f}
 use Rattle.math.specs.Whole.{Is}
 use Rattle.loop_mode.specs.declared.Loop.{Loop}
-use Rattle.loop_mode.specs.declared.PassLimit.{PassLimit}
-use Rattle.loop_mode.specs.declared.PassLimit.TheVariants.{Passes, Endless}
 use Rattle.loop_mode.specs.Passes.{limit_of}
 use Rattle.tween.specs.declared.record.Tween.{Tween}
 use Rattle.tween.specs.declared.record.TweenState.{TweenState}
 use Rattle.tween.specs.declared.record.TweenState.TheVariants.{Idle, Running, Paused, Completed}
-use Rattle.tween.specs.declared.answers.Changed.{Changed}
-use Rattle.tween.specs.declared.answers.Changed.TheVariants as changed
 use Rattle.tween.specs.declared.answers.Updated.{Updated}
-use Rattle.tween.specs.declared.answers.Updated.TheVariants as updated
 use Rattle.tween.specs.Calls.{pause_of, resume_of}
 use Rattle.tween.specs.Update.{update_of}
 use Rattle.tween.specs.Promises.{is_completed}
@@ -26,15 +22,17 @@ use Rattle.history.specs.History.{Act, step, pause, resume, Small, AllSmall, Pas
 use Rattle.history.proofs.Folding.{Below, Reached}
 use Rattle.history.proofs.Standing.{At, Standing, Stays, pause-keeps, resume-keeps, reset-begins}
 use Rattle.history.proofs.Keeping.{Came, left_over, update-keeps}
+use Rattle.refusal.specs.declared.rejected.Rejected.{Rejected}
+use Rattle.refusal.specs.Refusing.{rejected}
 
 -- F folds against the limit, where A / D is q
-below-cut : (m : PassLimit) (F : ℕ) → Below m F → (F ≡ cut_at m F) × (false ≡ reaches m F)
-below-cut (Passes n) F o = (omega arith, sym (lt-leb n F o))
-below-cut Endless F o = (refl, refl)
+below-cut : (m : Option ℕ) (F : ℕ) → Below m F → (F ≡ cut_at m F) × (false ≡ reaches m F)
+below-cut (Some n) F o = (omega arith, sym (lt-leb n F o))
+below-cut None F o = (refl, refl)
 
-reached-cut : (m : PassLimit) (F q : ℕ) → Reached m F → F ≤ q → (F ≡ cut_at m q) × (true ≡ reaches m q)
-reached-cut (Passes n) F q o k = (omega arith, sym (le-leb n q (omega arith)))
-reached-cut Endless F q o k = absurd o
+reached-cut : (m : Option ℕ) (F q : ℕ) → Reached m F → F ≤ q → (F ≡ cut_at m q) × (true ≡ reaches m q)
+reached-cut (Some n) F q o k = (omega arith, sym (le-leb n q (omega arith)))
+reached-cut None F q o k = absurd o
 
 -- what is kept says what the demand asks, for any A
 module _ (l : Loop) (D A F : ℕ) (some : 1 ≤ D) where
@@ -66,22 +64,22 @@ module _ (l : Loop) (D W s : ℕ) where
   Stands h = Standing l D W s h.taken (scaled s W h.taken) h.made h.tween
 
   -- an answer to an update of it by n
-  abbrev Answers : Past → ℕ → Updated → Type 0
+  abbrev Answers : Past → ℕ → Result Updated (Rejected Tween) → Type 0
   Answers h n = let K = h.taken + cond (counts h.tween.state) n 0 in Came l D W s n h.taken (scaled s W h.taken) h.made K (scaled s W h.taken + left_over s W h.taken K)
 
-  updated-stands : (h : Past) (n : ℕ) (a : Updated) → Answers h n a → Stands (updated_by h n a)
-  updated-stands h n (updated.Ran u k r) j =
+  updated-stands : (h : Past) (n : ℕ) (a : Result Updated (Rejected Tween)) → Answers h n a → Stands (updated_by h n a)
+  updated-stands h n (Ok o) j =
       let c = cond (counts h.tween.state) n 0 in
-      subst (λ (B : ℕ). Standing l D W s (h.taken + c) B (h.made + k) u) (grown s W h.taken c) j.0
-  updated-stands h n (updated.Refused u r) j = j
+      subst (λ (B : ℕ). Standing l D W s (h.taken + c) B (h.made + o.folds) o.tween) (grown s W h.taken c) j.0
+  updated-stands h n (Err o) j = j
 
-  few-more : (h : Past) (n : ℕ) (a : Updated) → Answers h n a → folds_in a * D ≤ n * s + D
-  few-more h n (updated.Ran u k r) j = j.1
-  few-more h n (updated.Refused u r) j = omega arith
+  few-more : (h : Past) (n : ℕ) (a : Result Updated (Rejected Tween)) → Answers h n a → folds_in a * D ≤ n * s + D
+  few-more h n (Ok o) j = j.1
+  few-more h n (Err o) j = omega arith
 
-  changed-stands : (h : Past) (a : Changed) → Stays l D W s h.taken (scaled s W h.taken) h.made a → Stands (changed_to h a)
-  changed-stands h (changed.Done u) j = j
-  changed-stands h (changed.Refused u r) j = j
+  changed-stands : (h : Past) (a : Result Tween (Rejected Tween)) → Stays l D W s h.taken (scaled s W h.taken) h.made a → Stands (changed_to h a)
+  changed-stands h (Ok u) j = j
+  changed-stands h (Err o) j = j
 
   answers : (h : Past) → Stands h → (n : ℕ) → n ≤ 524288 → Answers h n (update_of h.tween (whole_f n))
   answers h i n m = update-keeps l D W s h.taken (scaled s W h.taken) h.made n h.tween m i

@@ -1,4 +1,5 @@
 -- T1 by demand 3, so that its conditions are met by a tween: "Duration 3, delay 2, Times(4), scale 1, steps 3, 5, 100: folds 0, 2, 2; elapsed 1, 0, 3; Completed". Assumes nothing.
+use Rattle.std.specs.Prelude.{Ok}
 use Prim.Native.Nat.{ℕ}
 use native.Mathlib.Omega.{arith}
 use mathlib.Core.Path.{◌≡◌, refl, subst}
@@ -16,7 +17,6 @@ use Rattle.loop_mode.specs.declared.Loop.TheVariants.{Times}
 use Rattle.loop_mode.specs.Passes.{limit_of, within_of as mode_within}
 use Rattle.tween.specs.declared.record.Tween.{Tween}
 use Rattle.tween.specs.declared.record.TweenState.TheVariants.{Running}
-use Rattle.tween.specs.declared.answers.Changed.TheVariants.{Done}
 use Rattle.tween.specs.Parts.{put}
 use Rattle.tween.specs.Limits.{settings_within, clock_within, within_of}
 use Rattle.tween.specs.Calls.{at_start, reset_of}
@@ -47,7 +47,7 @@ settings : Settings t 3 2 1
 unfolding t eq of_int round of_bits
 settings = record { duration-is = tt; duration-from = omega arith; duration-to = omega arith; delay-is = tt; delay-to = omega arith; scale-is = tt; scale-from = omega arith; scale-to = omega arith }
 
-accepted : reset_of t ≡ Done (put (at_start t) t)
+accepted : reset_of t ≡ Ok (put (at_start t) t)
 unfolding t reset_of within_of settings_within clock_within fits_record_of supplied_of curve_of params_of params_within mode_within le lt eq of_bits
 accepted = refl
 

@@ -1,4 +1,5 @@
 -- What one fold keeps, and so any number of them: with F folds made in all, D times F and what has elapsed come to A. Assumes nothing.
+use Rattle.std.specs.Prelude.{None, Option, Some}
 use Prim.Native.Nat.{ℕ, ◌+◌, ◌-◌, ◌*◌, ◌%◌, ◌≤◌, ◌<◌}
 use native.Mathlib.Omega.{arith}
 use mathlib.Core.Path.{◌≡◌, refl, sym, ◌∙◌, subst, subst⁻¹}
@@ -11,22 +12,20 @@ use Rattle.math.proofs.Choice.{by-test}
 use Rattle.math.proofs.Wholes.{sub-exact, le_is}
 use Rattle.loop_mode.specs.declared.Loop.{Loop}
 use Rattle.loop_mode.specs.declared.Loop.TheVariants.{Once, Times, Forever, PingPong, PingPongTimes}
-use Rattle.loop_mode.specs.declared.PassLimit.{PassLimit}
-use Rattle.loop_mode.specs.declared.PassLimit.TheVariants.{Passes, Endless}
 use Rattle.loop_mode.specs.Passes.{passes_of, limit_of}
 use Rattle.folds.specs.declared.Folding.{Folding}
 use Rattle.folds.specs.Folds.{completes, goes_on, fold_once, due, folds_of}
 use Rattle.folds.proofs.Ways.{fold-counts, is-due, folds-keep}
 
 -- F passes are fewer than the limit
-abbrev pub Below : PassLimit → ℕ → Type 0
-Below (Passes n) F = F < n
-Below Endless F = Unit {0}
+abbrev pub Below : Option ℕ → ℕ → Type 0
+Below (Some n) F = F < n
+Below None F = Unit {0}
 
 -- F passes are the limit
-abbrev pub Reached : PassLimit → ℕ → Type 0
-Reached (Passes n) F = F ≡ n
-Reached Endless F = ⊥
+abbrev pub Reached : Option ℕ → ℕ → Type 0
+Reached (Some n) F = F ≡ n
+Reached None F = ⊥
 
 -- loop_count c stands at F in the modes that count
 abbrev pub Counted : Loop → ℕ → ℕ → Type 0
@@ -52,16 +51,16 @@ module _ (d : Float) (D A : ℕ) (v : Is d D) where
   ends l F p e c r a m o = (v, o, omega arith)
 
   -- a fold from a loop_count F to F + 1, which ends at the limit N or goes on below it
-  counts : (l : Loop) (F N : ℕ) (p : Folding) (e c i : ℕ) (r q : Bool) → limit_of l ≡ Passes N → Counted l (F + 1) (c + 1) → c ≡ F → F < N → Is p.elapsed e → D * F + e ≡ A → e ≤ 16777216 → D ≤ e
+  counts : (l : Loop) (F N : ℕ) (p : Folding) (e c i : ℕ) (r q : Bool) → limit_of l ≡ Some N → Counted l (F + 1) (c + 1) → c ≡ F → F < N → Is p.elapsed e → D * F + e ≡ A → e ≤ 16777216 → D ≤ e
       → let z = cond (leb N (c + 1)) (completes d i r p) (goes_on d (c + 1) q p) in FoldedTo l D A (F + 1) z.completed z
   counts l F N p e c i r q L k C o E a b m =
       by-test (λ (z : Folding). FoldedTo l D A (F + 1) z.completed z) (leb N (c + 1)) (completes d i r p) (goes_on d (c + 1) q p)
       (λ t.
       let g : F + 1 ≡ N = omega (arith, leb-true N (c + 1) t) in
-      ends l F p e i r a m (subst⁻¹ (λ (x : PassLimit). Reached x (F + 1)) L g))
+      ends l F p e i r a m (subst⁻¹ (λ (x : Option ℕ). Reached x (F + 1)) L g))
       (λ t.
       let g : F + 1 < N = omega (arith, leb-false N (c + 1) t) in
-      goes l F p e (c + 1) q E a b m (subst⁻¹ (λ (x : PassLimit). Below x (F + 1)) L g) k)
+      goes l F p e (c + 1) q E a b m (subst⁻¹ (λ (x : Option ℕ). Below x (F + 1)) L g) k)
 
   fold-keeps : (l : Loop) (F : ℕ) (p : Folding) → FoldedTo l D A F false p → le d p.elapsed ≡ true → FoldedTo l D A (F + 1) (fold_once l d p).completed (fold_once l d p)
   unfolding fold_once limit_of

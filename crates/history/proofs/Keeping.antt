@@ -1,4 +1,5 @@
 -- What an update by a whole step does to where a tween stands. Assumes nothing.
+use Rattle.std.specs.Prelude.{Result, Ok, Err}
 use Prim.Native.Nat.{ℕ, ◌+◌, ◌-◌, ◌*◌, ◌≤◌, ◌<◌}
 use native.Mathlib.Nat.{mul-le-mul_right}
 use native.Mathlib.Omega.{arith}
@@ -19,7 +20,6 @@ use Rattle.tween.specs.declared.record.TweenState.{TweenState}
 use Rattle.tween.specs.declared.record.TweenState.TheVariants.{Idle, Running, Paused, Completed}
 use Rattle.folds.specs.declared.Folding.{Folding}
 use Rattle.tween.specs.declared.answers.Updated.{Updated}
-use Rattle.tween.specs.declared.answers.Updated.TheVariants.{Ran, Refused}
 use Rattle.tween.specs.Parts.{put}
 use Rattle.tween.specs.Limits.{within_of}
 use Rattle.folds.specs.Folds.{due, folds_of}
@@ -29,11 +29,13 @@ use Rattle.tween.proofs.Ways.{folded_from, by-advanced}
 use Rattle.history.specs.History.{counts}
 use Rattle.history.proofs.Folding.{Below, Counted, FoldedTo, all_keep}
 use Rattle.history.proofs.Standing.{Under, At, Standing, moves-to, duration-value, scale-value, delay-value, product_small}
+use Rattle.refusal.specs.declared.rejected.Rejected.{Rejected}
+use Rattle.refusal.specs.Refusing.{rejected}
 
 -- an answer to an update by n: from H, A and F it came to K, B and F with the folds reported, or, refused, nowhere
-abbrev pub Came : Loop → ℕ → ℕ → ℕ → ℕ → ℕ → ℕ → ℕ → ℕ → ℕ → Updated → Type 0
-Came l D W s n H A F K B (Ran u k r) = Standing l D W s K B (F + k) u × (k * D ≤ n * s + D)
-Came l D W s n H A F K B (Refused u r) = Standing l D W s H A F u
+abbrev pub Came : Loop → ℕ → ℕ → ℕ → ℕ → ℕ → ℕ → ℕ → ℕ → ℕ → Result Updated (Rejected Tween) → Type 0
+Came l D W s n H A F K B (Ok o) = Standing l D W s K B (F + o.folds) o.tween × (o.folds * D ≤ n * s + D)
+Came l D W s n H A F K B (Err o) = Standing l D W s H A F o.value
 
 -- what the steps from H to K leave over after the delay, scaled
 abbrev pub left_over : ℕ → ℕ → ℕ → ℕ → ℕ
@@ -98,7 +100,7 @@ module _ (l : Loop) (D W s H A F n : ℕ) (t : Tween) (small : n ≤ 524288) (i 
 
   -- by a step x that is n
   module _ (x : Float) (X : Is x n) where
-    abbrev Next : Updated → Type 0
+    abbrev Next : Result Updated (Rejected Tween) → Type 0
     Next = Came l D W s n H A F (H + n) (A + left_over s W H (H + n))
 
     run-keeps : Under l D W H A F t → Next (run_of t x (t.elapsed ⊕ x ⊗ t.time_scale))
@@ -150,7 +152,7 @@ module _ (l : Loop) (D W s H A F n : ℕ) (t : Tween) (small : n ≤ 524288) (i 
   unfolding update_of
   update-keeps =
       let K = H + cond (counts t.state) n 0 in
-      let P : Updated → Type 0 = Came l D W s n H A F K (A + left_over s W H K) in
+      let P : Result Updated (Rejected Tween) → Type 0 = Came l D W s n H A F K (A + left_over s W H K) in
       let step_is : Is (whole_f n) n = whole_is binary32 n (omega (arith, small)) in
       by-test P (within_of t) _ _
       (λ _. by-test P (lt top_f (whole_f n)) _ _ (λ _. i) (λ _. by-state-keeps (max_zero_of (whole_f n)) (max-zero-is (whole_f n) n step_is) t.state i.at)) (λ _. i)

@@ -1,4 +1,5 @@
 -- Where a tween stands whose settings and steps are whole numbers. A reset begins there; a pause and a resume change nothing. Assumes nothing.
+use Rattle.std.specs.Prelude.{Ok, Result, Err}
 use Prim.Native.Nat.{ℕ, ◌+◌, ◌*◌, ◌≤◌, ◌<◌}
 use native.Mathlib.Nat.{eq-zero-or-pos, mul-le-mul}
 use native.Mathlib.Omega.{arith}
@@ -20,13 +21,13 @@ use Rattle.tween.specs.declared.record.Tween.{Tween}
 use Rattle.tween.specs.declared.record.TweenSnapshot.{TweenSnapshot}
 use Rattle.tween.specs.declared.record.TweenState.{TweenState}
 use Rattle.tween.specs.declared.record.TweenState.TheVariants.{Idle, Running, Paused, Completed}
-use Rattle.tween.specs.declared.answers.Changed.{Changed}
-use Rattle.tween.specs.declared.answers.Changed.TheVariants.{Done, Refused}
 use Rattle.tween.specs.Parts.{put, moved}
 use Rattle.tween.specs.Limits.{within_of}
 use Rattle.tween.specs.Calls.{at_start, paused, resumed, reset_of, pause_of, resume_of}
 use Rattle.history.specs.History.{Settings}
 use Rattle.history.proofs.Folding.{Below, Reached, Counted}
+use Rattle.refusal.specs.declared.rejected.Rejected.{Rejected}
+use Rattle.refusal.specs.Refusing.{rejected}
 
 -- H is the sum of the steps that counted, A the sum of what each left over after the delay, scaled, and F the sum of the folds. e of the pass under way has elapsed
 abbrev pub Under : Loop → ℕ → ℕ → ℕ → ℕ → ℕ → Tween → Type 0
@@ -76,9 +77,9 @@ module _ (t : Tween) (D W s : ℕ) (i : Settings t D W s) where
   product_small n h = mul-le-mul {n₁ = n} {m₁ = s} {n₂ = 524288} {m₂ = 16} h i.scale-to
 
 -- a pause and a resume
-abbrev pub Stays : Loop → ℕ → ℕ → ℕ → ℕ → ℕ → ℕ → Changed → Type 0
-Stays l D W s H A F (Done u) = Standing l D W s H A F u
-Stays l D W s H A F (Refused u r) = Standing l D W s H A F u
+abbrev pub Stays : Loop → ℕ → ℕ → ℕ → ℕ → ℕ → ℕ → Result Tween (Rejected Tween) → Type 0
+Stays l D W s H A F (Ok u) = Standing l D W s H A F u
+Stays l D W s H A F (Err o) = Standing l D W s H A F o.value
 
 module _ (l : Loop) (D W s H A F : ℕ) (t : Tween) (i : Standing l D W s H A F t) where
   -- what holds of t in the state a holds of it in the state b
@@ -103,9 +104,9 @@ module _ (l : Loop) (D W s H A F : ℕ) (t : Tween) (i : Standing l D W s H A F 
   resume-keeps = by-test (Stays l D W s H A F) (within_of t) _ _ (λ _. carried (resumed t.state) (either_way t.state).1) (λ _. i)
 
 -- a reset
-abbrev Begins : Loop → ℕ → ℕ → ℕ → Changed → Type 0
-Begins l D W s (Done u) = Standing l D W s 0 0 0 u
-Begins l D W s (Refused u r) = Unit {0}
+abbrev Begins : Loop → ℕ → ℕ → ℕ → Result Tween (Rejected Tween) → Type 0
+Begins l D W s (Ok u) = Standing l D W s 0 0 0 u
+Begins l D W s (Err o) = Unit {0}
 
 some : (n : ℕ) → 0 < passes_of n
 some n = by-test (λ (k : ℕ). 0 < k) (eqb n 0) 1 n (λ _. omega arith) (λ e. ⊎_elim (λ z. absurd (eqb-false n 0 e z)) (λ h. h) (eq-zero-or-pos n))
@@ -130,5 +131,5 @@ module _ (t : Tween) (D W s : ℕ) (i : Settings t D W s) where
       by-test (Begins t.looping D W s) (within_of t) _ _
       (λ _. record { settings = settings-stay (at_start t) t D W s i; looping-is = refl; at = started (lt zero_f t.delay) above }) (λ _. tt)
 
-  pub reset-begins : (u : Tween) → reset_of t ≡ Done u → Standing t.looping D W s 0 0 0 u
+  pub reset-begins : (u : Tween) → reset_of t ≡ Ok u → Standing t.looping D W s 0 0 0 u
   reset-begins u e = subst (Begins t.looping D W s) e begins

@@ -1,22 +1,19 @@
 -- Demand 3: "Take a tween, just reset, with whole numbers for duration D (1 to 1,048,576), delay W (0 to 1,048,576) and scale s (1 to 16), then any accepted updates by whole steps from 0 to 524,288, pauses and resumes. Let H be the sum of steps taken while neither paused nor completed, A = s times (H - W), or 0 if H < W. The folds reported add up to the whole part of A / D, or the mode's pass limit if less; elapsed is A less D times that, or D on completion; no update reports more than its step times s / D, plus 1."
-use Rattle.std.specs.Prelude.{ℕ, ◌+◌, ◌-◌, ◌*◌, ◌/◌, ◌≤◌, min, ◌≡◌, Bool, true, false, cond, List, [], ◌∷◌, T, leb, Float}
+use Rattle.std.specs.Prelude.{ℕ, ◌+◌, ◌-◌, ◌*◌, ◌/◌, ◌≤◌, min, ◌≡◌, Bool, true, false, cond, List, [], ◌∷◌, T, leb, Float, None, Ok, Option, Result, Some, Err}
 use Rattle.std.specs.Float.Ieee.{eq}
 use Rattle.math.specs.Rounded.{whole_f}
 use Rattle.math.specs.Whole.{Is}
 use Rattle.loop_mode.specs.declared.Loop.{Loop}
-use Rattle.loop_mode.specs.declared.PassLimit.{PassLimit}
-use Rattle.loop_mode.specs.declared.PassLimit.TheVariants.{Passes, Endless}
 use Rattle.loop_mode.specs.Passes.{limit_of}
 use Rattle.tween.specs.declared.record.Tween.{Tween}
 use Rattle.tween.specs.declared.record.TweenState.{TweenState}
 use Rattle.tween.specs.declared.record.TweenState.TheVariants.{Idle, Running, Paused, Completed}
-use Rattle.tween.specs.declared.answers.Changed.{Changed}
-use Rattle.tween.specs.declared.answers.Changed.TheVariants as changed
 use Rattle.tween.specs.declared.answers.Updated.{Updated}
-use Rattle.tween.specs.declared.answers.Updated.TheVariants as updated
 use Rattle.tween.specs.Calls.{reset_of, pause_of, resume_of}
 use Rattle.tween.specs.Update.{update_of}
 use Rattle.tween.specs.Promises.{is_completed}
+use Rattle.refusal.specs.declared.rejected.Rejected.{Rejected}
+use Rattle.refusal.specs.Refusing.{rejected}
 
 -- x is the number n; a zero of either sign is 0
 abbrev pub equals : Float → ℕ → Bool
@@ -52,13 +49,13 @@ counts Paused = false
 counts Completed = false
 
 -- an update by n: one that is refused adds nothing
-abbrev pub updated_by : Past → ℕ → Updated → Past
-updated_by h n (updated.Ran u k r) = record { tween = u; taken = h.taken + cond (counts h.tween.state) n 0; made = h.made + k }
-updated_by h n (updated.Refused u r) = record { tween = u; taken = h.taken; made = h.made }
+abbrev pub updated_by : Past → ℕ → Result Updated (Rejected Tween) → Past
+updated_by h n (Ok o) = record { tween = o.tween; taken = h.taken + cond (counts h.tween.state) n 0; made = h.made + o.folds }
+updated_by h n (Err o) = record { tween = o.value; taken = h.taken; made = h.made }
 
-abbrev pub changed_to : Past → Changed → Past
-changed_to h (changed.Done u) = record { tween = u; taken = h.taken; made = h.made }
-changed_to h (changed.Refused u r) = record { tween = u; taken = h.taken; made = h.made }
+abbrev pub changed_to : Past → Result Tween (Rejected Tween) → Past
+changed_to h (Ok u) = record { tween = u; taken = h.taken; made = h.made }
+changed_to h (Err o) = record { tween = o.value; taken = h.taken; made = h.made }
 
 abbrev pub after : Past → Act → Past
 after h (step n) = updated_by h n (update_of h.tween (whole_f n))
@@ -78,18 +75,18 @@ abbrev pub scaled : ℕ → ℕ → ℕ → ℕ
 scaled s W H = s * (H - W)
 
 -- "or the mode's pass limit if less"
-abbrev pub cut_at : PassLimit → ℕ → ℕ
-cut_at (Passes n) q = min q n
-cut_at Endless q = q
+abbrev pub cut_at : Option ℕ → ℕ → ℕ
+cut_at (Some n) q = min q n
+cut_at None q = q
 
 -- q passes come to the pass limit
-abbrev pub reaches : PassLimit → ℕ → Bool
-reaches (Passes n) q = leb n q
-reaches Endless q = false
+abbrev pub reaches : Option ℕ → ℕ → Bool
+reaches (Some n) q = leb n q
+reaches None q = false
 
-abbrev pub folds_in : Updated → ℕ
-folds_in (updated.Ran u k r) = k
-folds_in (updated.Refused u r) = 0
+abbrev pub folds_in : Result Updated (Rejected Tween) → ℕ
+folds_in (Ok o) = o.folds
+folds_in (Err o) = 0
 
 -- "whole numbers for duration D (1 to 1,048,576), delay W (0 to 1,048,576) and scale s (1 to 16)"
 pub record Settings (t : Tween) (D W s : ℕ) : Type 0 where
@@ -116,6 +113,6 @@ pub record Holds (l : Loop) (D s A : ℕ) (h : Past) : Type 0 where
 -- the demand: t is the tween that was reset, and u the tween as the reset left it
 abbrev pub Demand3 : Type 0
 Demand3 =
-    (t u : Tween) (D W s : ℕ) → Settings t D W s → reset_of t ≡ changed.Done u
+    (t u : Tween) (D W s : ℕ) → Settings t D W s → reset_of t ≡ Ok u
     → (acts : List Act) → AllSmall acts
     → let h = after_all (fresh u) acts in Holds t.looping D s (scaled s W h.taken) h

@@ -1,5 +1,6 @@
 -- Every call that is handed a track within its limits hands back one within them. Assumes nothing.
-use Rattle.std.proofs.Common.{◌≡◌, ℕ, ◌-◌, ◌<◌, ◌≤◌, Bool, true, false, ◌&&◌, T, eqb, leb, List, ◌++◌, length, take, drop, pos, refl, le_refl, arith, lit≤, le→leb, take_at, le-leb, leb-true}
+use Rattle.std.specs.Prelude.{None, Option, Some}
+use Rattle.std.proofs.Common.{◌≡◌, ℕ, ◌-◌, ◌<◌, ◌≤◌, Bool, true, false, ◌&&◌, T, eqb, leb, List, ◌++◌, length, take, drop, pos, refl, le_refl, arith, lit≤, le→leb, take_at, le-leb, leb-true, Result}
 use mathlib.Core.Path.{subst⁻¹}
 use borrow.Author.Tests.{eqb-false}
 use lib.Ieee.{Float, binary32, lt, le, eq, is_nan, of_int, of_bits}
@@ -28,17 +29,15 @@ use Rattle.frames.proofs.Pushed.{pushed-fine, pushed-last}
 use Rattle.frames.proofs.Rising.{each-fine, time-fine}
 use Rattle.frames.proofs.Clocks.{Clock, clock-finite, clock-test, test-clock, time-clock, shrunk-clock}
 use Rattle.keyframe.specs.declared.types.Track.{Track}
-use Rattle.keyframe.specs.declared.types.Changed.{Changed}
 use Rattle.keyframe.specs.declared.types.Updated.{Updated}
-use Rattle.keyframe.specs.declared.types.End.{End}
-use Rattle.keyframe.specs.declared.types.End.TheVariants.{At, Never}
 use Rattle.keyframe.specs.Limits.{frames_in, base_of, over_passes, end_of, mode_fits, clock_fits, within_of, Fine}
-use Rattle.keyframe.specs.Pushing.{new_track, stored_of, later_of, takes_of, with_frames, with_mode, placed_of, looping_of}
-use Rattle.keyframe.specs.Stepping.{moved_of, advance_of, reset_of, span_in, sought_of, seek_to_of}
+use Rattle.keyframe.specs.Pushing.{new_track, stored_of, later_of, takes_of, with_frames, with_mode, placed_of, looping_of, left_by}
+use Rattle.keyframe.specs.Stepping.{moved_of, advance_of, reset_of, span_in, sought_of, seek_to_of, left_by_update}
 use Rattle.keyframe.specs.Promises.{NewWithin, PushWithin, ModeWithin, UpdateWithin, ResetWithin, SeekWithin}
 use Rattle.keyframe.proofs.Records.{few-frames, frames-fine, elapsed-fine, mode-fine}
 use Rattle.keyframe.proofs.Changes.{by-push}
 use Rattle.keyframe.proofs.Moves.{by-update}
+use Rattle.refusal.specs.declared.rejected.Rejected.{Rejected}
 
 make : (t : Track) → t.count ≤ 64 → frames_within (frames_in t) ≡ true → Clock t.elapsed → mode_fits t.looping (base_of t) ≡ true → Fine t
 unfolding within_of clock_fits
@@ -68,9 +67,9 @@ passes-clock base n c h =
     (passes_up base n c b.0, holds (le (over_passes base n) top_f) b.1)
 
 -- where playback ends, it ends in time
-abbrev Timely : End → Type 0
-Timely (At total) = Clock total
-Timely Never = Unit {0}
+abbrev Timely : Option Float → Type 0
+Timely (Some total) = Clock total
+Timely None = Unit {0}
 
 end-timely : (m : Loop) (base : Float) → Clock base → mode_fits m base ≡ true → Timely (end_of m base)
 unfolding mode_fits end_of passes.within_of
@@ -100,25 +99,25 @@ module _ (t : Track) (fine : Fine t) where
   moved-within e c b k = make (moved_of t e c b) (few-frames t fine) (frames-fine t fine) k (mode-fine t fine)
 
   -- update
-  advance-within : (end : End) → Timely end → (sum : Float) → Up sum → Fine (advance_of end t sum).track
+  advance-within : (end : Option Float) → Timely end → (sum : Float) → Up sum → Fine (left_by_update (advance_of end t sum))
   unfolding advance_of
-  advance-within (At total) k sum u =
-      by-test (λ (r : Updated). Fine r.track) (le total sum) _ _ (λ _. moved-within total _ _ k)
+  advance-within (Some total) k sum u =
+      by-test (λ (r : Result Updated (Rejected Track)). Fine (left_by_update r)) (le total sum) _ _ (λ _. moved-within total _ _ k)
       (λ h. moved-within sum _ _ (u, le-chain sum total top_f (lt-le sum total (lt_of_not_le total sum (le-numbers total top_f k.1).0 (le-numbers zero_f sum u).1 h)) k.1))
-  advance-within Never k sum u =
-      by-test (λ (r : Updated). Fine r.track) (lt top_f sum) _ _ (λ _. fine)
+  advance-within None k sum u =
+      by-test (λ (r : Result Updated (Rejected Track)). Fine (left_by_update r)) (lt top_f sum) _ _ (λ _. fine)
       (λ h. moved-within sum _ _ (u, le_of_not_lt top_f sum top-number (le-numbers zero_f sum u).1 h))
     where
       top-number : is_nan top_f ≡ false
       top-number = (le-numbers zero_f top_f zero-clock.1).1
 
-  span-clock : (end : End) → Timely end → Clock (span_in end (base_of t))
-  span-clock (At total) k = k
-  span-clock Never k = base-clock
+  span-clock : (end : Option Float) → Timely end → Clock (span_in end (base_of t))
+  span-clock (Some total) k = k
+  span-clock None k = base-clock
 
 pub update-within : UpdateWithin
 update-within t fine dt =
-    by-update (λ (r : Updated). Fine r.track) t dt (λ _. fine) (λ _. fine)
+    by-update (λ (r : Result Updated (Rejected Track)). Fine (left_by_update r)) t dt (λ _. fine) (λ _. fine)
     (λ _. advance-within t fine (end_of t.looping (base_of t)) (timely t fine) (t.elapsed ⊕ max_zero_of dt) (add-up binary32 t.elapsed (max_zero_of dt) (test-clock t.elapsed (elapsed-fine t fine)).0 (max-zero-up dt)))
 
 pub reset-within : ResetWithin
@@ -129,7 +128,7 @@ pub seek-within : SeekWithin
 unfolding seek_to_of sought_of
 seek-within t fine p =
     rw fine
-    (by-test (λ (r : Changed). Fine r.track) (is_nan p) _ _ (λ _. fine)
+    (by-test (λ (r : Result Track (Rejected Track)). Fine (left_by r)) (is_nan p) _ _ (λ _. fine)
     (λ h.
     let end = end_of t.looping (base_of t) in
     by-test Fine (eq (span_in end (base_of t)) zero_f) _ _ (λ _. moved-within t fine zero_f 0 true zero-clock)
@@ -139,7 +138,7 @@ pub mode-within : ModeWithin
 unfolding looping_of
 mode-within t fine m =
     rw fine
-    (by-test (λ (r : Changed). Fine r.track) (mode_fits m (base_of t)) _ _
+    (by-test (λ (r : Result Track (Rejected Track)). Fine (left_by r)) (mode_fits m (base_of t)) _ _
     (λ h. make (with_mode t m) (few-frames t fine) (frames-fine t fine) (test-clock t.elapsed (elapsed-fine t fine)) h)
     (λ _. fine))
 
@@ -158,11 +157,11 @@ module _ (t : Track) (fine : Fine t) (k : Keyframe) (good : frame_within k ≡ t
   grown-mode : mode_fits t.looping (duration_of (pushed_of k (frames_in t))) ≡ true
   grown-mode = rw (pushed-last k (le-numbers zero_f k.time clock.0).1 clock.0 (frames_in t) (frames-fine t fine)) fits
 
-  placed-within : Fine (placed_of t (put_of t.frames t.count k)).track
+  placed-within : Fine (left_by (placed_of t (put_of t.frames t.count k)))
   unfolding put_of placed_of
   placed-within =
       let l = pushed_of k (frames_in t) in
-      by-test (λ (p : Put). Fine (placed_of t p).track) (leb (length l) 64) (record { frames = l ++ drop (length l) t.frames; count = length l; full = false }) (record { frames = t.frames; count = t.count; full = true })
+      by-test (λ (p : Option Put). Fine (left_by (placed_of t p))) (leb (length l) 64) (Some (record { frames = l ++ drop (length l) t.frames; count = length l })) None
       (λ h.
       let e : take (length l) (l ++ drop (length l) t.frames) ≡ l = take_at l (drop (length l) t.frames) (length l) refl in
       make (with_frames t (l ++ drop (length l) t.frames) (length l)) (leb-true (length l) 64 h) (rw e grown-fine) (test-clock t.elapsed (elapsed-fine t fine)) (rw e grown-mode))
@@ -171,7 +170,7 @@ module _ (t : Track) (fine : Fine t) (k : Keyframe) (good : frame_within k ≡ t
 pub push-within : PushWithin
 unfolding takes_of frame_within fits_record_of
 push-within t fine k =
-    by-push (λ (r : Changed). Fine r.track) t k (λ _. fine) (λ s p h. placed-within t fine (stored_of k) (framed (stored_of k) h s p) (fitting (stored_of k) h))
+    by-push (λ (r : Result Track (Rejected Track)). Fine (left_by r)) t k (λ _. fine) (λ s p h. placed-within t fine (stored_of k) (framed (stored_of k) h s p) (fitting (stored_of k) h))
   where
     framed : (f : Keyframe) → takes_of t f ≡ true → supplied_of f.easing ≡ true → params.within_of (params.params_of f.easing) ≡ true → frame_within f ≡ true
     framed f h s p =

@@ -1,5 +1,6 @@
 -- What a track promises: ascending times, finite values, the value that was pushed, the ends, and what `running` says. Assumes nothing.
-use Rattle.std.proofs.Common.{◌≡◌, ℕ, ◌<◌, Bool, true, false, cond, not, ◌||◌, T, eqb, ltb, leb, List, ◌++◌, length, get_or, take, drop, sym, refl, ap, ◌∙◌, subst, arith, take_at}
+use Rattle.std.specs.Prelude.{Err, None, Ok, Option, Some}
+use Rattle.std.proofs.Common.{◌≡◌, ℕ, ◌<◌, Bool, true, false, cond, not, ◌||◌, T, eqb, ltb, leb, List, ◌++◌, length, get_or, take, drop, sym, refl, ap, ◌∙◌, subst, arith, take_at, Result}
 use mathlib.Core.Path.{subst⁻¹}
 use mathlib.Core.Bool.{or-true}
 use lib.Ieee.{Float, binary32, fits, lt, le, eq, of_bits}
@@ -20,21 +21,17 @@ use Rattle.frames.proofs.Pushed.{pushed-in}
 use Rattle.frames.proofs.Samples.{sample-finite, sample-first, sample-last}
 use Rattle.frames.proofs.Owned.{sample-own}
 use Rattle.keyframe.specs.declared.types.Track.{Track}
-use Rattle.keyframe.specs.declared.types.Changed.{Changed}
-use Rattle.keyframe.specs.declared.types.Outcome.TheVariants.{Done, Refused}
 use Rattle.keyframe.specs.declared.types.Updated.{Updated}
-use Rattle.keyframe.specs.declared.types.Stepped.TheVariants as stepped
-use Rattle.keyframe.specs.declared.types.End.{End}
-use Rattle.keyframe.specs.declared.types.End.TheVariants.{At, Never}
 use Rattle.keyframe.specs.Limits.{frames_in, base_of, end_of, Fine}
 use Rattle.keyframe.specs.Playback.{done_of}
 use Rattle.keyframe.specs.Stepping.{moved_of, ran, final_of, passes_made, advance_of, update_of}
-use Rattle.keyframe.specs.Pushing.{stored_of, placed_of, push_of}
+use Rattle.keyframe.specs.Pushing.{stored_of, placed_of, push_of, left_by}
 use Rattle.keyframe.specs.Promises.{Ascending, PushSampled, SampleReal, AtFirst, AtLast, Running}
 use Rattle.keyframe.proofs.Records.{frames-fine}
 use Rattle.keyframe.proofs.Changes.{by-push}
 use Rattle.keyframe.proofs.Moves.{by-update}
 use Rattle.keyframe.proofs.Kept.{push-within}
+use Rattle.refusal.specs.declared.rejected.Rejected.{Rejected}
 
 zero-below : lt zero_f zero_f ≡ false
 unfolding lt of_bits
@@ -50,21 +47,17 @@ stored_same l k = ap (λ (x : Float). cond (eqb (length l) 1) (own_of (first_of 
     maxed x true e = rw (not-lt-of-le x zero_f (equal-le x zero_f (subst⁻¹ T e tt)), zero-below)
 
 -- where a push is done, a sample at its time equals the value that was pushed
-abbrev Sampled : Float → Float → Changed → Type 0
-Sampled time value r = r.outcome ≡ Done → Fine r.track → eq (sample_of (frames_in r.track) time).value value ≡ true
-
-never : {A : Type 0} (r : Refusal) → Refused r ≡ Done → A
-never r h =
-    let z : ◌≡◌ {A = ℕ} 0 1 = cc in
-    absurd (omega (arith, z))
+abbrev Sampled : Float → Float → Result Track (Rejected Track) → Type 0
+Sampled time value (Ok u) = Fine u → eq (sample_of (frames_in u) time).value value ≡ true
+Sampled time value (Err r) = Unit {0}
 
 placed-sampled : (t : Track) (k : Keyframe) → T (fits binary32 k.value) → Sampled k.time k.value (placed_of t (put_of t.frames t.count k))
 unfolding put_of placed_of
 placed-sampled t k F =
     let l = pushed_of k (frames_in t) in
-    by-test (λ (p : Put). Sampled k.time k.value (placed_of t p)) (leb (length l) 64) (record { frames = l ++ drop (length l) t.frames; count = length l; full = false }) (record { frames = t.frames; count = t.count; full = true })
-    (λ _ _ fine. go l (pushed-in k (frames_in t)) (take (length l) (l ++ drop (length l) t.frames)) (take_at l (drop (length l) t.frames) (length l) refl) (frames-fine _ fine))
-    (λ _ h _. never TrackFull h)
+    by-test (λ (p : Option Put). Sampled k.time k.value (placed_of t p)) (leb (length l) 64) (Some (record { frames = l ++ drop (length l) t.frames; count = length l })) None
+    (λ _ fine. go l (pushed-in k (frames_in t)) (take (length l) (l ++ drop (length l) t.frames)) (take_at l (drop (length l) t.frames) (length l) refl) (frames-fine _ fine))
+    (λ _. tt)
   where
     go : (l : List Keyframe) → (p : ℕ) × ((p < length l) × (get_or l p no_frame ≡ k)) → (m : List Keyframe) → m ≡ l → frames_within m ≡ true → eq (sample_of m k.time).value k.value ≡ true
     go l (p, (h, e)) m s fine =
@@ -72,10 +65,12 @@ placed-sampled t k F =
         (subst (λ (x : Keyframe). eq (sample_of l x.time).value x.value ≡ true) e (sample-own l (rw s at fine) p h (subst⁻¹ (λ (x : Keyframe). T (fits binary32 x.value)) e F)))
 
 pub push-sampled : PushSampled
-push-sampled t fine k F h = subst (λ (f : Found). eq f.value k.value ≡ true) (stored_same (frames_in (push_of t k).track) k) (sampled h (push-within t fine k))
+push-sampled t fine k u F h =
+    let within : Fine u = subst (λ (r : Result Track (Rejected Track)). Fine (left_by r)) h (push-within t fine k) in
+    subst (λ (f : Found). eq f.value k.value ≡ true) (stored_same (frames_in u) k) (subst (Sampled (stored_of k).time k.value) h sampled within)
   where
     sampled : Sampled (stored_of k).time k.value (push_of t k)
-    sampled = by-push (Sampled (stored_of k).time k.value) t k (λ r h _. never r h) (λ _ _ _. placed-sampled t (stored_of k) F)
+    sampled = by-push (Sampled (stored_of k).time k.value) t k (λ r. tt) (λ _ _ _. placed-sampled t (stored_of k) F)
 
 pub ascending : Ascending
 ascending t fine = rising before_all (frames_in t) (frames-fine t fine)
@@ -90,18 +85,9 @@ pub at_last : AtLast
 at_last t fine some = sample-last (frames_in t) (frames-fine t fine) some
 
 -- what an update tells of running
-abbrev Told : Updated → Type 0
-Told r = (b : Bool) → r.stepped ≡ stepped.Ran b → b ≡ not (done_of r.track)
-
-unlike : {A : Type 0} (b : Bool) (r : Refusal) → stepped.Refused r ≡ stepped.Ran b → A
-unlike b r h =
-    let z : ◌≡◌ {A = ℕ} 0 1 = cc in
-    absurd (omega (arith, z))
-
-ran-told : (t : Track) (running : Bool) → running ≡ not (done_of t) → Told (ran t running)
-ran-told t running e b h =
-    let s : running ≡ b = cc in
-    sym s ∙ e
+abbrev Told : Result Updated (Rejected Track) → Type 0
+Told (Ok u) = u.running ≡ not (done_of u.track)
+Told (Err r) = Unit {0}
 
 -- not done: two frames or more
 goes : (t : Track) → done_of t ≡ false → (e : Float) (c : ℕ) → done_of (moved_of t e c false) ≡ false
@@ -111,19 +97,14 @@ goes t h e c = go (ltb t.count 2) h
     go true k = k
     go false k = refl
 
-advance-told : (t : Track) → done_of t ≡ false → (end : End) (sum : Float) → Told (advance_of end t sum)
+advance-told : (t : Track) → done_of t ≡ false → (end : Option Float) (sum : Float) → Told (advance_of end t sum)
 unfolding advance_of
-advance-told t h (At total) sum =
-    by-test Told (le total sum) _ _ (λ _. ran-told (moved_of t total (final_of t.looping (passes_made t sum)) true) false (sym (ap not (or-true (ltb t.count 2)))))
-    (λ _. ran-told (moved_of t sum (passes_made t sum) false) true (sym (ap not (goes t h sum (passes_made t sum)))))
-advance-told t h Never sum =
-    by-test Told (lt top_f sum) _ _ (λ _ b k. unlike b ElapsedTooLong k)
-    (λ _. ran-told (moved_of t sum (passes_made t sum) false) true (sym (ap not (goes t h sum (passes_made t sum)))))
-
-update-told : (t : Track) (dt : Float) → Told (update_of t dt)
-update-told t dt =
-    by-update Told t dt (λ r b k. unlike b r k) (λ h. ran-told t false (sym (ap not h)))
-    (λ h. advance-told t h (end_of t.looping (base_of t)) (t.elapsed ⊕ max_zero_of dt))
+advance-told t h (Some total) sum =
+    by-test Told (le total sum) _ _ (λ _. sym (ap not (or-true (ltb t.count 2))))
+    (λ _. sym (ap not (goes t h sum (passes_made t sum))))
+advance-told t h None sum =
+    by-test Told (lt top_f sum) _ _ (λ _. tt)
+    (λ _. sym (ap not (goes t h sum (passes_made t sum))))
 
 pub running : Running
-running t dt b h = update-told t dt b h
+running t u dt b h = subst Told h (by-update Told t dt (λ r. tt) (λ d. sym (ap not d)) (λ d. advance-told t d (end_of t.looping (base_of t)) (t.elapsed ⊕ max_zero_of dt)))

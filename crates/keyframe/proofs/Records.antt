@@ -1,4 +1,5 @@
 -- The limits of a track, test by test. Assumes nothing.
+use Rattle.std.specs.Prelude.{None, Some}
 use Rattle.std.proofs.Common.{◌≡◌, ℕ, ◌+◌, ◌-◌, ◌<◌, ◌≤◌, Bool, true, false, ◌&&◌, leb, List, length, get_or, take, drop, sym, arith, length-take-le, get_or-take, ne_eqb, le-leb, leb-true}
 use mathlib.Core.Bool.{and-true}
 use lib.Ieee.{Float, lt, le}
@@ -17,7 +18,6 @@ use Rattle.frames.specs.Limits.{frame_within, frames_after, frames_within, no_fr
 use Rattle.frames.specs.Sampling.{duration_of}
 use Rattle.frames.proofs.Walks.{front, back}
 use Rattle.keyframe.specs.declared.types.Track.{Track}
-use Rattle.keyframe.specs.declared.types.End.TheVariants.{At, Never}
 use Rattle.keyframe.specs.contracts.types.Track.{the_type}
 use Rattle.keyframe.proofs.types.Track.TheLaws.{the_laws}
 use Rattle.keyframe.specs.Limits.{frames_in, base_of, end_of, mode_fits, clock_fits, within_of}
@@ -28,11 +28,11 @@ frames-long t vs h = (owed the_type the_laws t vs h).0.1.0.1
 
 -- the modes
 module _ (m : Loop) (base : Float) where
-  pub ends : (total : Float) → At total ≡ end_of m base → (b : Bool) → b ≡ passes.within_of m → b && le total top_f ≡ mode_fits m base
+  pub ends : (total : Float) → Some total ≡ end_of m base → (b : Bool) → b ≡ passes.within_of m → b && le total top_f ≡ mode_fits m base
   unfolding mode_fits
   ends total e b h = rw (← e, h)
 
-  pub goes_on : Never ≡ end_of m base → (b : Bool) → b ≡ passes.within_of m → b ≡ mode_fits m base
+  pub goes_on : None ≡ end_of m base → (b : Bool) → b ≡ passes.within_of m → b ≡ mode_fits m base
   unfolding mode_fits
   goes_on e b h = rw (← e, h) (sym (and-true (passes.within_of m)))
 

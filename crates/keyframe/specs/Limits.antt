@@ -1,5 +1,5 @@
 -- Document 01, "Records and their limits": the limits of a track.
-use Rattle.std.specs.Prelude.{◌≡◌, ℕ, Bool, true, ◌&&◌, List, take, nat_le, Float}
+use Rattle.std.specs.Prelude.{◌≡◌, ℕ, Bool, true, ◌&&◌, List, take, nat_le, Float, None, Option, Some}
 use Rattle.std.specs.Float.Ieee.{le}
 use Rattle.math.specs.Rounded.{◌⊗◌, whole_f, zero_f, top_f}
 use Rattle.math.specs.Range.{is_between}
@@ -10,8 +10,6 @@ use Rattle.frames.specs.declared.frame.Keyframe.{Keyframe}
 use Rattle.frames.specs.Limits.{frames_within}
 use Rattle.frames.specs.Sampling.{duration_of}
 use Rattle.keyframe.specs.declared.types.Track.{Track}
-use Rattle.keyframe.specs.declared.types.End.{End}
-use Rattle.keyframe.specs.declared.types.End.TheVariants.{At, Never}
 
 -- "A track holds at most 64 frames and its own count of them"
 abbrev pub frames_in : Track → List Keyframe
@@ -26,17 +24,17 @@ abbrev pub over_passes : Float → ℕ → Float
 over_passes base n = base ⊗ whole_f (passes.passes_of n)
 
 -- "in the modes with an end its total"; Once takes the last time itself, as the source does
-unfoldable pub end_of : Loop → Float → End
-end_of Once base = At base
-end_of (Times n) base = At (over_passes base n)
-end_of Forever base = Never
-end_of PingPong base = Never
-end_of (PingPongTimes n) base = At (over_passes base n)
+unfoldable pub end_of : Loop → Float → Option Float
+end_of Once base = Some base
+end_of (Times n) base = Some (over_passes base n)
+end_of Forever base = None
+end_of PingPong base = None
+end_of (PingPongTimes n) base = Some (over_passes base n)
 
 -- "its total .. is at most 16,777,216"
-abbrev pub total_fits : End → Bool
-total_fits (At total) = le total top_f
-total_fits Never = true
+abbrev pub total_fits : Option Float → Bool
+total_fits (Some total) = le total top_f
+total_fits None = true
 
 -- "a track's pass or total limit"
 unfoldable pub mode_fits : Loop → Float → Bool

@@ -8,13 +8,14 @@ use Rattle.refusal.specs.declared.Refusal.TheVariants.{StepLost}
 use Rattle.keyframe.specs.declared.types.Track.{Track}
 use Rattle.keyframe.specs.Limits.{within_of}
 use Rattle.keyframe.specs.Playback.{done_of}
-use Rattle.keyframe.specs.Stepping.{halted, lost_of, update_of}
+use Rattle.keyframe.specs.Stepping.{lost_of, update_of}
+use Rattle.refusal.specs.Refusing.{rejected}
 
 -- 6: "step lost", and "given exactly when": behind 4 and 5, in a track that an update moves, it is given there, and there alone
 abbrev pub UpdateSixExactly : Type 0
 UpdateSixExactly =
     (t : Track) (dt : Float)
-    → (update_of t dt ≡ halted t StepLost) ↔ T (within_of t && not (lt top_f dt) && not (done_of t) && lost_of t.elapsed (max_zero_of dt))
+    → (update_of t dt ≡ rejected t StepLost) ↔ T (within_of t && not (lt top_f dt) && not (done_of t) && lost_of t.elapsed (max_zero_of dt))
 
 -- document 01's rule, which request 5 corrects: "step > 0 and the sum equals elapsed"
 abbrev pub stands_still : Float → Float → Bool

@@ -1,24 +1,19 @@
 -- Document 01, "The track": "`active_time`, `progress`, .. as in the source". The expressions and their order are those of `keyframe.rs`.
-use Rattle.std.specs.Prelude.{Bool, false, cond, ◌||◌, nat_lt, Float}
+use Rattle.std.specs.Prelude.{Bool, false, cond, ◌||◌, nat_lt, Float, Err, None, Ok, Option, Result, Some}
 use Rattle.std.specs.Float.{inf, binary32}
 use Rattle.std.specs.Float.Ieee.{rem, le, eq}
 use Rattle.math.specs.Rounded.{◌⊖◌, ◌⊗◌, zero_f, two_f}
 use Rattle.math.specs.Blend.{ratio_of}
 use Rattle.refusal.specs.declared.Refusal.TheVariants.{RecordBreaksLimit}
 use Rattle.refusal.specs.Refusing.{unless}
-use Rattle.units.specs.declared.InSeconds.{InSeconds}
-use Rattle.units.specs.declared.InSeconds.TheVariants as seconds
-use Rattle.units.specs.declared.InProgress.{InProgress}
-use Rattle.units.specs.declared.InProgress.TheVariants as progress
 use Rattle.loop_mode.specs.declared.Loop.{Loop}
 use Rattle.loop_mode.specs.declared.Loop.TheVariants.{Once, Times, Forever, PingPong, PingPongTimes}
 use Rattle.frames.specs.Sampling.{cut_of}
 use Rattle.keyframe.specs.declared.types.Track.{Track}
-use Rattle.keyframe.specs.declared.types.End.{End}
-use Rattle.keyframe.specs.declared.types.End.TheVariants.{At, Never}
-use Rattle.keyframe.specs.declared.types.Completion.{Completion}
-use Rattle.keyframe.specs.declared.types.Completion.TheVariants as completion
 use Rattle.keyframe.specs.Limits.{base_of, end_of, within_of}
+use Rattle.units.specs.declared.Progress.{Progress}
+use Rattle.refusal.specs.declared.Refusal.{Refusal}
+use Rattle.units.specs.declared.Seconds.{Seconds}
 
 -- the remainder is exact
 infixl 7 ◌%%◌
@@ -41,37 +36,37 @@ unfoldable pub active_of : Track → Float
 active_of t = cond (eq (base_of t) zero_f) zero_f (phase_of t.looping t.complete t.elapsed (base_of t))
 
 -- a track within its limits answers a time
-abbrev pub in_seconds : Track → Float → InSeconds
-in_seconds t x = unless (within_of t) (seconds.Refused RecordBreaksLimit) (seconds.Seconds (record { 0 = x }))
+abbrev pub in_seconds : Track → Float → Result Seconds Refusal
+in_seconds t x = unless (within_of t) (Err RecordBreaksLimit) (Ok (record { 0 = x }))
 
-unfoldable pub active_time_of : Track → InSeconds
+unfoldable pub active_time_of : Track → Result Seconds Refusal
 active_time_of t = in_seconds t (active_of t)
 
 -- the source's `duration` of the track: one pass
-unfoldable pub duration_in : Track → InSeconds
+unfoldable pub duration_in : Track → Result Seconds Refusal
 duration_in t = in_seconds t (base_of t)
 
 -- all passes: infinite in the modes without an end, and 0 where a pass takes no time
-abbrev pub playback_of : End → Float → Float
-playback_of (At total) base = total
-playback_of Never base = cond (eq base zero_f) zero_f (inf false)
+abbrev pub playback_of : Option Float → Float → Float
+playback_of (Some total) base = total
+playback_of None base = cond (eq base zero_f) zero_f (inf false)
 
-unfoldable pub playback_in : Track → InSeconds
+unfoldable pub playback_in : Track → Result Seconds Refusal
 playback_in t = in_seconds t (playback_of (end_of t.looping (base_of t)) (base_of t))
 
 -- of the total; in the modes without one, of the pass
-abbrev pub playback_progress : End → Track → Float
-playback_progress (At total) t = ratio_of t.elapsed total
-playback_progress Never t = ratio_of (active_of t) (base_of t)
+abbrev pub playback_progress : Option Float → Track → Float
+playback_progress (Some total) t = ratio_of t.elapsed total
+playback_progress None t = ratio_of (active_of t) (base_of t)
 
-unfoldable pub progress_of : Track → InProgress
+unfoldable pub progress_of : Track → Result Progress Refusal
 progress_of t =
-    unless (within_of t) (progress.Refused RecordBreaksLimit)
-    (progress.Progress (record { 0 = playback_progress (end_of t.looping (base_of t)) t }))
+    unless (within_of t) (Err RecordBreaksLimit)
+    (Ok (record { 0 = playback_progress (end_of t.looping (base_of t)) t }))
 
 -- "complete or fewer than two frames"
 abbrev pub done_of : Track → Bool
 done_of t = nat_lt t.count 2 || t.complete
 
-unfoldable pub complete_of : Track → Completion
-complete_of t = unless (within_of t) (completion.Refused RecordBreaksLimit) (completion.Complete (done_of t))
+unfoldable pub complete_of : Track → Result Bool Refusal
+complete_of t = unless (within_of t) (Err RecordBreaksLimit) (Ok (done_of t))

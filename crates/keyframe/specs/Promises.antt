@@ -1,5 +1,5 @@
 -- Document 01, "Records and their limits" and "The track": what holds of every track. Each sentence is a type; its proof has its name in small letters.
-use Rattle.std.specs.Prelude.{◌≡◌, ℕ, ◌<◌, Bool, true, not, T, length, slice_index_or, Float}
+use Rattle.std.specs.Prelude.{◌≡◌, ℕ, ◌<◌, Bool, true, not, T, length, slice_index_or, Float, Ok}
 use Rattle.std.specs.Float.{binary32}
 use Rattle.std.specs.Float.Ieee.{fits, lt, le, eq}
 use Rattle.math.specs.Range.{is_finite}
@@ -8,31 +8,29 @@ use Rattle.frames.specs.declared.frame.Keyframe.{Keyframe}
 use Rattle.frames.specs.Limits.{no_frame}
 use Rattle.frames.specs.Sampling.{first_of, last_of, own_of, sample_of}
 use Rattle.keyframe.specs.declared.types.Track.{Track}
-use Rattle.keyframe.specs.declared.types.Outcome.TheVariants.{Done}
-use Rattle.keyframe.specs.declared.types.Stepped.TheVariants as stepped
 use Rattle.keyframe.specs.Limits.{frames_in, Fine}
 use Rattle.keyframe.specs.Playback.{done_of}
-use Rattle.keyframe.specs.Pushing.{new_track, push_of, looping_of}
-use Rattle.keyframe.specs.Stepping.{update_of, reset_of, seek_to_of}
+use Rattle.keyframe.specs.Pushing.{new_track, push_of, looping_of, left_by}
+use Rattle.keyframe.specs.Stepping.{update_of, reset_of, seek_to_of, ran, left_by_update}
 
 -- a new track is within its limits, and a call that is handed one within them hands one back within them
 abbrev pub NewWithin : Type 0
 NewWithin = Fine new_track
 
 abbrev pub PushWithin : Type 0
-PushWithin = (t : Track) → Fine t → (k : Keyframe) → Fine (push_of t k).track
+PushWithin = (t : Track) → Fine t → (k : Keyframe) → Fine (left_by (push_of t k))
 
 abbrev pub ModeWithin : Type 0
-ModeWithin = (t : Track) → Fine t → (m : Loop) → Fine (looping_of t m).track
+ModeWithin = (t : Track) → Fine t → (m : Loop) → Fine (left_by (looping_of t m))
 
 abbrev pub UpdateWithin : Type 0
-UpdateWithin = (t : Track) → Fine t → (dt : Float) → Fine (update_of t dt).track
+UpdateWithin = (t : Track) → Fine t → (dt : Float) → Fine (left_by_update (update_of t dt))
 
 abbrev pub ResetWithin : Type 0
-ResetWithin = (t : Track) → Fine t → Fine (reset_of t).track
+ResetWithin = (t : Track) → Fine t → Fine (left_by (reset_of t))
 
 abbrev pub SeekWithin : Type 0
-SeekWithin = (t : Track) → Fine t → (p : Float) → Fine (seek_to_of t p).track
+SeekWithin = (t : Track) → Fine t → (p : Float) → Fine (left_by (seek_to_of t p))
 
 -- "times strictly ascending"
 abbrev pub Ascending : Type 0
@@ -43,8 +41,8 @@ Ascending =
 -- "Push at an equal time replaces": where a push is done, a sample at its time equals the value that was pushed
 abbrev pub PushSampled : Type 0
 PushSampled =
-    (t : Track) → Fine t → (k : Keyframe) → T (fits binary32 k.value) → (push_of t k).outcome ≡ Done
-    → eq (sample_of (frames_in (push_of t k).track) k.time).value k.value ≡ true
+    (t : Track) → Fine t → (k : Keyframe) (u : Track) → T (fits binary32 k.value) → push_of t k ≡ Ok u
+    → eq (sample_of (frames_in u) k.time).value k.value ≡ true
 
 -- each sample is finite
 abbrev pub SampleReal : Type 0
@@ -64,4 +62,4 @@ AtLast =
 
 -- the source's answer to an update, `running`: not complete, and two frames or more
 abbrev pub Running : Type 0
-Running = (t : Track) (dt : Float) (b : Bool) → (update_of t dt).stepped ≡ stepped.Ran b → b ≡ not (done_of (update_of t dt).track)
+Running = (t u : Track) (dt : Float) (b : Bool) → update_of t dt ≡ ran u b → b ≡ not (done_of u)

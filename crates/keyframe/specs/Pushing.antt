@@ -1,11 +1,11 @@
 -- Document 01, "The track" and "Refusal numbers": a frame pushed into a track, and a change of its mode.
-use Rattle.std.specs.Prelude.{ℕ, Bool, false, cond, ◌&&◌, List, replicate, Float}
+use Rattle.std.specs.Prelude.{ℕ, Bool, false, cond, ◌&&◌, List, replicate, Float, Err, Ok, Result, Option, Some, None}
 use Rattle.std.specs.Float.Ieee.{lt, eq}
 use Rattle.math.specs.Rounded.{zero_f}
 use Rattle.math.specs.Range.{is_value}
 use Rattle.refusal.specs.declared.Refusal.{Refusal}
 use Rattle.refusal.specs.declared.Refusal.TheVariants.{RecordBreaksLimit, EasingNotSupplied, EasingParameter, TrackLimit, TrackFull}
-use Rattle.refusal.specs.Refusing.{unless, when}
+use Rattle.refusal.specs.Refusing.{unless, when, rejected}
 use Rattle.easing.specs.Kinds.{supplied_of}
 use Rattle.easing.specs.Params as params
 use Rattle.loop_mode.specs.declared.Loop.{Loop}
@@ -15,16 +15,13 @@ use Rattle.frames.specs.declared.frame.Put.{Put}
 use Rattle.frames.specs.Limits.{frame_of, is_time, blank}
 use Rattle.frames.specs.Pushing.{put_of}
 use Rattle.keyframe.specs.declared.types.Track.{Track}
-use Rattle.keyframe.specs.declared.types.Changed.{Changed}
-use Rattle.keyframe.specs.declared.types.Outcome.TheVariants.{Done, Refused}
 use Rattle.keyframe.specs.Limits.{base_of, mode_fits, within_of}
+use Rattle.refusal.specs.declared.rejected.Rejected.{Rejected}
 
--- "Each refusal hands back the record unchanged .. and the number"
-abbrev pub refused : Track → Refusal → Changed
-refused t r = record { track = t; outcome = Refused r }
-
-abbrev pub changed : Track → Changed
-changed t = record { track = t; outcome = Done }
+-- the track that a call hands back, refused or not
+abbrev pub left_by : Result Track (Rejected Track) → Track
+left_by (Ok t) = t
+left_by (Err r) = r.value
 
 -- no frames, Once, as in the source
 unfoldable pub new_track : Track
@@ -69,23 +66,22 @@ abbrev pub with_mode : Track → Loop → Track
 with_mode t m = remade t t.frames t.count m
 
 -- 9: "push into a full track at a time no frame has"
-unfoldable pub placed_of : Track → Put → Changed
-placed_of t p =
-    when p.full (refused t TrackFull)
-    (changed (with_frames t p.frames p.count))
+unfoldable pub placed_of : Track → Option Put → Result Track (Rejected Track)
+placed_of t (Some p) = Ok (with_frames t p.frames p.count)
+placed_of t None = rejected t TrackFull
 
 -- the order of the refusals: 4, 2, 3, 11, 9
-unfoldable pub push_of : Track → Keyframe → Changed
+unfoldable pub push_of : Track → Keyframe → Result Track (Rejected Track)
 push_of t k =
-    unless (within_of t) (refused t RecordBreaksLimit)
-    (unless (supplied_of k.easing) (refused t EasingNotSupplied)
-    (unless (params.within_of (params.params_of k.easing)) (refused t EasingParameter)
-    (unless (takes_of t (stored_of k)) (refused t TrackLimit)
+    unless (within_of t) (rejected t RecordBreaksLimit)
+    (unless (supplied_of k.easing) (rejected t EasingNotSupplied)
+    (unless (params.within_of (params.params_of k.easing)) (rejected t EasingParameter)
+    (unless (takes_of t (stored_of k)) (rejected t TrackLimit)
     (placed_of t (put_of t.frames t.count (stored_of k))))))
 
 -- 4, then 11: "a push or change of mode would break a track's pass or total limit"
-unfoldable pub looping_of : Track → Loop → Changed
+unfoldable pub looping_of : Track → Loop → Result Track (Rejected Track)
 looping_of t m =
-    unless (within_of t) (refused t RecordBreaksLimit)
-    (unless (mode_fits m (base_of t)) (refused t TrackLimit)
-    (changed (with_mode t m)))
+    unless (within_of t) (rejected t RecordBreaksLimit)
+    (unless (mode_fits m (base_of t)) (rejected t TrackLimit)
+    (Ok (with_mode t m)))

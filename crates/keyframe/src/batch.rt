@@ -3,7 +3,7 @@ ghost use Rattle.std.specs.Prelude.{◌≡◌, take};
 ghost use Rattle.keyframe.specs.Batch.{batch_number, batch_out, batch_count, batch_unsettled, batch_answer, none_filled};
 
 use crate::refusing::fill_outcome;
-use crate::types::{Filled, Outcome, Track};
+use crate::types::{Filled, Track};
 use refusal::Refusal;
 
 fn none_filled(refusal: Refusal) -> Filled
@@ -26,7 +26,7 @@ impl Track {
         if !self.is_within_limits() {
             return none_filled(Refusal::RecordBreaksLimit);
         }
-        if let Outcome::Refused(refusal) = fill_outcome(self.count, times.len(), out.len()) {
+        if let Err(refusal) = fill_outcome(self.count, times.len(), out.len()) {
             return none_filled(refusal);
         }
         let list = self.frames;

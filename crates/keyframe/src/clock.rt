@@ -8,7 +8,7 @@ ghost use Rattle.keyframe.specs.Clock.{active_at, clock_of, progress_at, seek_of
 
 use crate::limits::end_of;
 use crate::playback::{phase, playback};
-use crate::types::{Clock, End, Ticked};
+use crate::types::{Clock, Ticked};
 use loop_mode::Loop;
 use refusal::Refusal;
 
@@ -43,31 +43,31 @@ fn final_count(looping: Loop, count: u32) -> u32
     }
 }
 
-fn ran(elapsed: f32, loop_count: u32, complete: bool) -> Ticked
+fn ran(elapsed: f32, loop_count: u32, complete: bool) -> Result<Ticked, Refusal>
     ensures { result ≡ ticked_at elapsed loop_count complete }
 {
     let clock = Clock::new(elapsed, loop_count, complete);
-    Ticked::Ran {
+    Ok(Ticked {
         clock,
         running: !complete,
-    }
+    })
 }
 
 // At `sum` seconds, or at the end. loop_count goes by what was there before the cut.
-fn advance(looping: Loop, base: f32, sum: f32) -> Ticked
+fn advance(looping: Loop, base: f32, sum: f32) -> Result<Ticked, Refusal>
     ensures { result ≡ tick_to (end_of looping base) looping base sum }
 {
     let count = math::whole_part(sum / base);
     match end_of(looping, base) {
-        End::At(total) => {
+        Some(total) => {
             if total <= sum {
                 return ran(total, final_count(looping, count), true);
             }
             ran(sum, count, false)
         }
-        End::Never => {
+        None => {
             if sum > 16777216.0 {
-                return Ticked::Refused(Refusal::ElapsedTooLong);
+                return Err(Refusal::ElapsedTooLong);
             }
             ran(sum, count, false)
         }
@@ -75,41 +75,47 @@ fn advance(looping: Loop, base: f32, sum: f32) -> Ticked
 }
 
 // A step of dt seconds. Refused: 5, 6, 8.
-pub fn tick(frames: usize, base: f32, looping: Loop, clock: Clock, dt: f32) -> Ticked
+pub fn tick(
+    frames: usize,
+    base: f32,
+    looping: Loop,
+    clock: Clock,
+    dt: f32,
+) -> Result<Ticked, Refusal>
     ensures { result ≡ tick_of frames base looping clock dt }
 {
     if dt > 16777216.0 {
-        return Ticked::Refused(Refusal::StepTooLong);
+        return Err(Refusal::StepTooLong);
     }
     if (frames < 2) | clock.complete {
-        return Ticked::Ran {
+        return Ok(Ticked {
             clock,
             running: false,
-        };
+        });
     }
     let step = math::max_zero(dt);
     if is_lost(clock.elapsed, step) {
-        return Ticked::Refused(Refusal::StepLost);
+        return Err(Refusal::StepLost);
     }
     advance(looping, base, clock.elapsed + step)
 }
 
 // What a progress of 1 stands for.
-fn span_in(end: End, base: f32) -> f32
+fn span_in(end: Option<f32>, base: f32) -> f32
     ensures { result ≡ span_in end base }
 {
     match end {
-        End::At(total) => total,
-        End::Never => base,
+        Some(total) => total,
+        None => base,
     }
 }
 
-fn has_end(end: End) -> bool
+fn has_end(end: Option<f32>) -> bool
     ensures { result ≡ has_end end }
 {
     match end {
-        End::At(_) => true,
-        End::Never => false,
+        Some(_) => true,
+        None => false,
     }
 }
 
@@ -141,8 +147,8 @@ pub fn progress_at(looping: Loop, complete: bool, elapsed: f32, base: f32) -> f3
     ensures { result ≡ progress_at (end_of looping base) looping complete elapsed base }
 {
     match end_of(looping, base) {
-        End::At(total) => math::ratio(elapsed, total),
-        End::Never => math::ratio(active_at(looping, complete, elapsed, base), base),
+        Some(total) => math::ratio(elapsed, total),
+        None => math::ratio(active_at(looping, complete, elapsed, base), base),
     }
 }
 

@@ -1,17 +1,8 @@
 // The track that a call hands back.
 ghost use Rattle.std.specs.Prelude.{◌≡◌};
-ghost use Rattle.keyframe.specs.Pushing.{refused};
-ghost use Rattle.keyframe.specs.Stepping.{moved_of, ran, halted};
+ghost use Rattle.keyframe.specs.Stepping.{moved_of};
 
-use crate::types::{Changed, Outcome, Stepped, Track, Updated};
-use refusal::Refusal;
-
-pub fn refuse(track: Track, refusal: Refusal) -> Changed
-    ensures { result ≡ refused track refusal }
-{
-    let outcome = Outcome::Refused(refusal);
-    Changed { track, outcome }
-}
+use crate::types::Track;
 
 // What moves, put into a track.
 pub fn moved(track: Track, elapsed: f32, loop_count: u32, complete: bool) -> Track
@@ -22,18 +13,4 @@ pub fn moved(track: Track, elapsed: f32, loop_count: u32, complete: bool) -> Tra
     u.loop_count = loop_count;
     u.complete = complete;
     u
-}
-
-pub fn run(track: Track, running: bool) -> Updated
-    ensures { result ≡ ran track running }
-{
-    let stepped = Stepped::Ran { running };
-    Updated { track, stepped }
-}
-
-pub fn halt(track: Track, refusal: Refusal) -> Updated
-    ensures { result ≡ halted track refusal }
-{
-    let stepped = Stepped::Refused(refusal);
-    Updated { track, stepped }
 }

@@ -17,4 +17,4 @@ pub use limits::clock_fits;
 pub use refusing::{
     fill_outcome, looping_outcome, push_outcome, room_outcome, sample_outcome, seek_outcome,
 };
-pub use types::{Changed, Clock, Completion, Filled, Outcome, Stepped, Ticked, Track, Updated};
+pub use types::{Clock, Filled, Ticked, Track, Updated};

@@ -2,7 +2,7 @@
 ghost use Rattle.std.specs.Prelude.{◌≡◌, ◌≤◌};
 ghost use Rattle.keyframe.specs.Limits.{base_of, end_of, mode_fits, clock_fits, within_of, over_passes};
 
-use crate::types::{End, Track};
+use crate::types::Track;
 use loop_mode::Loop;
 
 fn over_passes(base: f32, n: u32) -> f32
@@ -12,15 +12,15 @@ fn over_passes(base: f32, n: u32) -> f32
 }
 
 // Where playback ends whose one pass takes `base` seconds.
-pub fn end_of(looping: Loop, base: f32) -> End
+pub fn end_of(looping: Loop, base: f32) -> Option<f32>
     ensures { result ≡ end_of looping base }
 {
     match looping {
-        Loop::Once => End::At(base),
-        Loop::Times(n) => End::At(over_passes(base, n)),
-        Loop::Forever => End::Never,
-        Loop::PingPong => End::Never,
-        Loop::PingPongTimes(n) => End::At(over_passes(base, n)),
+        Loop::Once => Some(base),
+        Loop::Times(n) => Some(over_passes(base, n)),
+        Loop::Forever => None,
+        Loop::PingPong => None,
+        Loop::PingPongTimes(n) => Some(over_passes(base, n)),
     }
 }
 
@@ -30,8 +30,8 @@ pub fn mode_fits(looping: Loop, base: f32) -> bool
 {
     let fits = looping.is_within_limits();
     match end_of(looping, base) {
-        End::At(total) => fits & (total <= 16777216.0),
-        End::Never => fits,
+        Some(total) => fits & (total <= 16777216.0),
+        None => fits,
     }
 }
 

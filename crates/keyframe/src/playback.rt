@@ -4,10 +4,10 @@ ghost use Rattle.keyframe.specs.Playback.{bounce_of, phase_of, active_of, active
 
 use crate::clock::active_at;
 use crate::limits::{end_of, last_time};
-use crate::types::{Completion, End, Track};
+use crate::types::Track;
 use loop_mode::Loop;
 use refusal::Refusal;
-use units::{InProgress, InSeconds, Progress, Seconds};
+use units::{Progress, Seconds};
 
 fn bounce(cycle: f32, base: f32) -> f32
     ensures { result ≡ bounce_of cycle base }
@@ -44,12 +44,12 @@ pub fn active(track: Track) -> f32
     active_at(looping, track.complete, track.elapsed, last_time(track))
 }
 
-pub fn playback(end: End, base: f32) -> f32
+pub fn playback(end: Option<f32>, base: f32) -> f32
     ensures { result ≡ playback_of end base }
 {
     match end {
-        End::At(total) => total,
-        End::Never => {
+        Some(total) => total,
+        None => {
             if base == 0.0 {
                 return 0.0;
             }
@@ -58,13 +58,13 @@ pub fn playback(end: End, base: f32) -> f32
     }
 }
 
-fn along(end: End, track: Track) -> f32
+fn along(end: Option<f32>, track: Track) -> f32
     requires { track.count ≤ 64 }
     ensures { result ≡ playback_progress end track }
 {
     match end {
-        End::At(total) => math::ratio(track.elapsed, total),
-        End::Never => math::ratio(active(track), last_time(track)),
+        Some(total) => math::ratio(track.elapsed, total),
+        None => math::ratio(active(track), last_time(track)),
     }
 }
 
@@ -76,56 +76,56 @@ pub fn is_done(track: Track) -> bool
 
 // Each call is refused 4 where the track breaks a limit.
 impl Track {
-    pub fn active_time(self) -> InSeconds
+    pub fn active_time(self) -> Result<Seconds, Refusal>
         ensures { result ≡ active_time_of self }
     {
         if self.is_within_limits() {
-            return InSeconds::Seconds(Seconds(active(self)));
+            return Ok(Seconds(active(self)));
         }
-        InSeconds::Refused(Refusal::RecordBreaksLimit)
+        Err(Refusal::RecordBreaksLimit)
     }
 
     // One pass, which is the last frame's time.
-    pub fn duration(self) -> InSeconds
+    pub fn duration(self) -> Result<Seconds, Refusal>
         ensures { result ≡ duration_in self }
     {
         if self.is_within_limits() {
-            return InSeconds::Seconds(Seconds(last_time(self)));
+            return Ok(Seconds(last_time(self)));
         }
-        InSeconds::Refused(Refusal::RecordBreaksLimit)
+        Err(Refusal::RecordBreaksLimit)
     }
 
     // All passes.
-    pub fn playback_duration(self) -> InSeconds
+    pub fn playback_duration(self) -> Result<Seconds, Refusal>
         ensures { result ≡ playback_in self }
     {
         if self.is_within_limits() {
             let looping = self.looping;
             let base = last_time(self);
             let total = playback(end_of(looping, base), base);
-            return InSeconds::Seconds(Seconds(total));
+            return Ok(Seconds(total));
         }
-        InSeconds::Refused(Refusal::RecordBreaksLimit)
+        Err(Refusal::RecordBreaksLimit)
     }
 
-    pub fn progress(self) -> InProgress
+    pub fn progress(self) -> Result<Progress, Refusal>
         ensures { result ≡ progress_of self }
     {
         if self.is_within_limits() {
             let looping = self.looping;
             let end = end_of(looping, last_time(self));
-            return InProgress::Progress(Progress(along(end, self)));
+            return Ok(Progress(along(end, self)));
         }
-        InProgress::Refused(Refusal::RecordBreaksLimit)
+        Err(Refusal::RecordBreaksLimit)
     }
 
     // A track with fewer than two frames counts as complete.
-    pub fn is_complete(self) -> Completion
+    pub fn is_complete(self) -> Result<bool, Refusal>
         ensures { result ≡ complete_of self }
     {
         if self.is_within_limits() {
-            return Completion::Complete(is_done(self));
+            return Ok(is_done(self));
         }
-        Completion::Refused(Refusal::RecordBreaksLimit)
+        Err(Refusal::RecordBreaksLimit)
     }
 }

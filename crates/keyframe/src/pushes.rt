@@ -5,14 +5,13 @@ ghost use Rattle.frames.specs.Limits.{frame_of};
 ghost use Rattle.frames.specs.Pushing.{put_of};
 ghost use Rattle.keyframe.specs.Pushing.{new_track, stored_of, placed_of, push_of, looping_of};
 
-use crate::handed::refuse;
 use crate::limits::last_time;
-use crate::refusing::{looping_outcome, push_outcome, room_outcome};
-use crate::types::{Changed, Outcome, Track};
+use crate::refusing::{looping_outcome, push_outcome};
+use crate::types::Track;
 use easing::Easing;
 use frames::Keyframe;
 use loop_mode::Loop;
-use refusal::Refusal;
+use refusal::{Refusal, Rejected};
 
 // -0 as a time becomes +0.
 fn stored(k: Keyframe) -> Keyframe
@@ -23,24 +22,20 @@ fn stored(k: Keyframe) -> Keyframe
     u
 }
 
-fn place(track: Track, k: Keyframe) -> Changed
+fn place(track: Track, k: Keyframe) -> Result<Track, Rejected<Track>>
     requires { track.count ≤ 64 }
     ensures { result ≡ placed_of track (put_of track.frames track.count k) }
 {
     let old = track.frames;
-    let put = frames::put(old, track.count, k);
-    if let Outcome::Refused(refusal) = room_outcome(put.full) {
-        return refuse(track, refusal);
-    }
+    let Some(put) = frames::put(old, track.count, k) else {
+        return Err(Rejected::new(track, Refusal::TrackFull));
+    };
     let frames = put.frames;
     let mut u = track;
     u.frames = frames;
     u.count = put.count;
     u.complete = false;
-    Changed {
-        track: u,
-        outcome: Outcome::Done,
-    }
+    Ok(u)
 }
 
 impl Track {
@@ -60,14 +55,14 @@ impl Track {
     }
 
     // A Linear frame. Refused as `push_frame` refuses.
-    pub fn push(self, time: f32, value: f32) -> Changed
+    pub fn push(self, time: f32, value: f32) -> Result<Track, Rejected<Track>>
         ensures { result ≡ push_of self (frame_of time value Linear) }
     {
         self.push_frame(Keyframe::new(time, value, Easing::Linear))
     }
 
     // The same with an easing.
-    pub fn push_eased(self, time: f32, value: f32, easing: Easing) -> Changed
+    pub fn push_eased(self, time: f32, value: f32, easing: Easing) -> Result<Track, Rejected<Track>>
         ensures { result ≡ push_of self (frame_of time value easing) }
     {
         self.push_frame(Keyframe::new(time, value, easing))
@@ -75,11 +70,11 @@ impl Track {
 
     // A frame at the time of another replaces it. Refused: 4; 2 and 3 for the easing; 11 for the
     // time, the value or the total; 9 where the track is full.
-    pub fn push_frame(self, k: Keyframe) -> Changed
+    pub fn push_frame(self, k: Keyframe) -> Result<Track, Rejected<Track>>
         ensures { result ≡ push_of self k }
     {
         if !self.is_within_limits() {
-            return refuse(self, Refusal::RecordBreaksLimit);
+            return Err(Rejected::new(self, Refusal::RecordBreaksLimit));
         }
         let frame = stored(k);
         // Not by `last_time`, which would copy the track once more.
@@ -88,34 +83,30 @@ impl Track {
         let looping = self.looping;
         let easing = k.easing;
         let outcome = push_outcome(easing, looping, last, frame.time, frame.value);
-        if let Outcome::Refused(refusal) = outcome {
-            return refuse(self, refusal);
+        if let Err(refusal) = outcome {
+            return Err(Rejected::new(self, refusal));
         }
         place(self, frame)
     }
 
     // Refused: 4; 11 where the mode breaks the pass or the total limit.
-    pub fn looping(self, mode: Loop) -> Changed
+    pub fn looping(self, mode: Loop) -> Result<Track, Rejected<Track>>
         ensures { result ≡ looping_of self mode }
     {
         if !self.is_within_limits() {
-            return refuse(self, Refusal::RecordBreaksLimit);
+            return Err(Rejected::new(self, Refusal::RecordBreaksLimit));
         }
-        if let Outcome::Refused(refusal) = looping_outcome(mode, last_time(self)) {
-            return refuse(self, refusal);
+        if let Err(refusal) = looping_outcome(mode, last_time(self)) {
+            return Err(Rejected::new(self, refusal));
         }
         let frames = self.frames;
-        let track = Track {
+        Ok(Track {
             frames,
             count: self.count,
             elapsed: self.elapsed,
             looping: mode,
             loop_count: self.loop_count,
             complete: false,
-        };
-        Changed {
-            track,
-            outcome: Outcome::Done,
-        }
+        })
     }
 }

@@ -4,7 +4,6 @@ ghost use Rattle.keyframe.specs.Pushing.{later_of};
 ghost use Rattle.keyframe.specs.Inner.{takes_at, push_outcome, room_outcome, looping_outcome, sample_outcome, fill_outcome, seek_outcome};
 
 use crate::limits::mode_fits;
-use crate::types::Outcome;
 use easing::Easing;
 use loop_mode::Loop;
 use refusal::Refusal;
@@ -24,70 +23,74 @@ fn takes(looping: Loop, last: f32, time: f32, value: f32) -> bool
 }
 
 // A push of a frame with this easing, time and value: 2, 3, 11.
-pub fn push_outcome(easing: Easing, looping: Loop, last: f32, time: f32, value: f32) -> Outcome
+pub fn push_outcome(
+    easing: Easing,
+    looping: Loop,
+    last: f32,
+    time: f32,
+    value: f32,
+) -> Result<(), Refusal>
     ensures { result ≡ push_outcome easing looping last time value }
 {
     if !easing.is_supplied() {
-        return Outcome::Refused(Refusal::EasingNotSupplied);
+        return Err(Refusal::EasingNotSupplied);
     }
     if !easing.fits_record() {
-        return Outcome::Refused(Refusal::EasingParameter);
+        return Err(Refusal::EasingParameter);
     }
     if !takes(looping, last, time, value) {
-        return Outcome::Refused(Refusal::TrackLimit);
+        return Err(Refusal::TrackLimit);
     }
-    Outcome::Done
+    Ok(())
 }
 
 // A frame for which there is no place: 9.
-pub fn room_outcome(full: bool) -> Outcome
+pub fn room_outcome(full: bool) -> Result<(), Refusal>
     ensures { result ≡ room_outcome full }
 {
     if full {
-        return Outcome::Refused(Refusal::TrackFull);
+        return Err(Refusal::TrackFull);
     }
-    Outcome::Done
+    Ok(())
 }
 
 // A change of mode: 11.
-pub fn looping_outcome(mode: Loop, last: f32) -> Outcome
+pub fn looping_outcome(mode: Loop, last: f32) -> Result<(), Refusal>
     ensures { result ≡ looping_outcome mode last }
 {
     if !mode_fits(mode, last) {
-        return Outcome::Refused(Refusal::TrackLimit);
+        return Err(Refusal::TrackLimit);
     }
-    Outcome::Done
+    Ok(())
 }
 
 // A sample of this many frames: 10.
-pub fn sample_outcome(count: usize) -> Outcome
+pub fn sample_outcome(count: usize) -> Result<(), Refusal>
     ensures { result ≡ sample_outcome count }
 {
     if count == 0 {
-        return Outcome::Refused(Refusal::NoFrames);
+        return Err(Refusal::NoFrames);
     }
-    Outcome::Done
+    Ok(())
 }
 
 // As many samples as there are times, into an output of this length: 10, 12.
-pub fn fill_outcome(count: usize, times: usize, room: usize) -> Outcome
+pub fn fill_outcome(count: usize, times: usize, room: usize) -> Result<(), Refusal>
     ensures { result ≡ fill_outcome count times room }
 {
-    if let Outcome::Refused(refusal) = sample_outcome(count) {
-        return Outcome::Refused(refusal);
-    }
+    sample_outcome(count)?;
     if room < times {
-        return Outcome::Refused(Refusal::OutputTooShort);
+        return Err(Refusal::OutputTooShort);
     }
-    Outcome::Done
+    Ok(())
 }
 
 // A seek to this progress: 1.
-pub fn seek_outcome(progress: f32) -> Outcome
+pub fn seek_outcome(progress: f32) -> Result<(), Refusal>
     ensures { result ≡ seek_outcome progress }
 {
     if math::is_nan(progress) {
-        return Outcome::Refused(Refusal::ProgressIsNan);
+        return Err(Refusal::ProgressIsNan);
     }
-    Outcome::Done
+    Ok(())
 }

@@ -19,12 +19,6 @@ pub enum Loop {
 // The largest pass number that a mode may hold.
 const MOST_PASSES: u32 = 65535;
 
-#[derive(Clone, Copy)]
-pub enum PassLimit {
-    Passes(u32),
-    Endless,
-}
-
 // The passes that a pass number asks for: 0 counts as 1.
 pub fn passes(n: u32) -> u32
     ensures { result ≡ passes_of n }
@@ -34,15 +28,15 @@ pub fn passes(n: u32) -> u32
 
 impl Loop {
     // How many passes there are before the end.
-    pub fn pass_limit(self) -> PassLimit
+    pub fn pass_limit(self) -> Option<u32>
         ensures { result ≡ limit_of self }
     {
         match self {
-            Loop::Once => PassLimit::Passes(1),
-            Loop::Times(n) => PassLimit::Passes(passes(n)),
-            Loop::Forever => PassLimit::Endless,
-            Loop::PingPong => PassLimit::Endless,
-            Loop::PingPongTimes(n) => PassLimit::Passes(passes(n)),
+            Loop::Once => Some(1),
+            Loop::Times(n) => Some(passes(n)),
+            Loop::Forever => None,
+            Loop::PingPong => None,
+            Loop::PingPongTimes(n) => Some(passes(n)),
         }
     }
 

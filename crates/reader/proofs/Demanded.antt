@@ -1,4 +1,5 @@
 -- Demand 3 of a replay: its tween and its folds are those of the history that its records tell of. Assumes nothing.
+use Rattle.std.specs.Prelude.{Err, Ok, Result}
 use Rattle.std.proofs.Common.{◌≡◌, ℕ, zero, suc, ◌+◌, ◌/◌, ◌%◌, true, false, eqb, leb, ◌⊎◌, List, [], ◌∷◌, map, length, get_or, take, drop, replicate, sym, refl, ap, ◌∙◌, inl, inr, arith}
 use mathlib.Core.Bool.{false≢true}
 use Rattle.math.specs.Rounded.{whole_f}
@@ -6,10 +7,7 @@ use Rattle.math.proofs.Choice.{by-test}
 use Rattle.refusal.specs.declared.Refusal.{Refusal}
 use Rattle.refusal.specs.declared.Refusal.TheVariants.{RecordBreaksLimit, OutputTooShort, WrongMark, UnknownVersion, WrongLength, WrongRecord}
 use Rattle.tween.specs.declared.record.Tween.{Tween}
-use Rattle.tween.specs.declared.answers.Changed.{Changed}
-use Rattle.tween.specs.declared.answers.Changed.TheVariants as changed
 use Rattle.tween.specs.declared.answers.Updated.{Updated}
-use Rattle.tween.specs.declared.answers.Updated.TheVariants as updated
 use Rattle.tween.specs.Limits.{within_of}
 use Rattle.tween.specs.Calls.{pause_of, resume_of}
 use Rattle.tween.specs.Update.{update_of}
@@ -20,63 +18,63 @@ use Rattle.event_log.specs.Writing.{number_at}
 use Rattle.event_log.specs.Format.{mark, version, starts_with}
 use Rattle.reader.specs.declared.hear.Replay.{Replay}
 use Rattle.reader.specs.declared.hear.Played.{Played}
-use Rattle.reader.specs.declared.hear.Played.TheVariants.{Done, Refused}
 use Rattle.reader.specs.declared.hear.Heard.{Heard}
-use Rattle.reader.specs.declared.hear.Heard.TheVariants.{Goes, Stops}
 use Rattle.reader.specs.Records.{records_of, is_wrong, event_in}
 use Rattle.reader.specs.Hearing.{capped, gap_of, is_repeat, by_update, by_change, played_of, further, heard_of}
 use Rattle.reader.specs.Reading.{Reading, stopped, followed, reading_of, read_on_of, begin_of, replay_of}
 use Rattle.reader.specs.Promises.{event_of, without_repeats, ReplayDemand3}
 use Rattle.reader.proofs.Heard.{is_done}
+use Rattle.refusal.specs.declared.rejected.Rejected.{Rejected}
+use Rattle.refusal.specs.Refusing.{rejected}
 
 -- what a call came to
-tween_in : Tween → Played → Tween
-tween_in t (Done u k) = u
-tween_in t (Refused r) = t
+tween_in : Tween → Result Played Refusal → Tween
+tween_in t (DONE u k) = u
+tween_in t (Err r) = t
 
-folds_in : Played → ℕ
-folds_in (Done u k) = k
-folds_in (Refused r) = 0
+folds_in : Result Played Refusal → ℕ
+folds_in (DONE u k) = k
+folds_in (Err r) = 0
 
 -- a history after an act, and the tween after the call that tells of it
 module _ (h : Past) (u : Tween) (k : ℕ) where
   abbrev Agrees : Past → Type 0
   Agrees p = (p.tween ≡ u) × (p.made ≡ h.made + k)
 
-  updated-agrees : (n : ℕ) (a : Updated) → by_update a ≡ Done u k → Agrees (updated_by h n a)
+  updated-agrees : (n : ℕ) (a : Result Updated (Rejected Tween)) → by_update a ≡ DONE u k → Agrees (updated_by h n a)
   unfolding tween_in folds_in
-  updated-agrees n (updated.Ran v m r) e = (ap (tween_in u) e, ap (λ (p : Played). h.made + folds_in p) e)
-  updated-agrees n (updated.Refused v r) e = absurd (false≢true (ap is_done e))
+  updated-agrees n (RAN v m r) e = (ap (tween_in u) e, ap (λ (p : Result Played Refusal). h.made + folds_in p) e)
+  updated-agrees n (rejected v r) e = absurd (false≢true (ap is_done e))
 
-  changed-agrees : (a : Changed) → by_change a ≡ Done u k → Agrees (changed_to h a)
+  changed-agrees : (a : Result Tween (Rejected Tween)) → by_change a ≡ DONE u k → Agrees (changed_to h a)
   unfolding tween_in folds_in
-  changed-agrees (changed.Done v) e = (ap (tween_in u) e, omega (arith, ap folds_in e))
-  changed-agrees (changed.Refused v r) e = absurd (false≢true (ap is_done e))
+  changed-agrees (Ok v) e = (ap (tween_in u) e, omega (arith, ap folds_in e))
+  changed-agrees (rejected v r) e = absurd (false≢true (ap is_done e))
 
-  agrees : (a : Act) → played_of h.tween (event_of a) ≡ Done u k → Agrees (after h a)
+  agrees : (a : Act) → played_of h.tween (event_of a) ≡ DONE u k → Agrees (after h a)
   unfolding played_of
   agrees (step n) e = updated-agrees n (update_of h.tween (whole_f n)) e
   agrees pause e = changed-agrees (pause_of h.tween) e
   agrees resume e = changed-agrees (resume_of h.tween) e
 
 -- what a record that was read can be: a repeat, which leaves all as it was, or one whose call was accepted
-abbrev Kind : Replay → List ℕ → Heard → Type 0
-Kind s r (Goes g u) =
+abbrev Kind : Replay → List ℕ → Result Heard Refusal → Type 0
+Kind s r (GOES g u) =
     ((is_repeat g ≡ true) × (u ≡ s))
-    ⊎ ((is_repeat g ≡ false) × (k : ℕ) × (played_of s.tween (event_in r) ≡ Done u.tween k) × (u.folds ≡ capped (s.folds + k)))
-Kind s r (Stops x) = Unit {0}
+    ⊎ ((is_repeat g ≡ false) × (k : ℕ) × (played_of s.tween (event_in r) ≡ DONE u.tween k) × (u.folds ≡ capped (s.folds + k)))
+Kind s r (Err x) = Unit {0}
 
-further-kind : (s : Replay) (r : List ℕ) (n g : ℕ) (p : Played) → is_repeat g ≡ false → played_of s.tween (event_in r) ≡ p → Kind s r (further p s n g)
-further-kind s r n g (Done u k) b e = inr (b, k, e, refl)
-further-kind s r n g (Refused x) b e = tt
+further-kind : (s : Replay) (r : List ℕ) (n g : ℕ) (p : Result Played Refusal) → is_repeat g ≡ false → played_of s.tween (event_in r) ≡ p → Kind s r (further p s n g)
+further-kind s r n g (DONE u k) b e = inr (b, k, e, refl)
+further-kind s r n g (Err x) b e = tt
 
 heard-kind : (s : Replay) (r : List ℕ) → Kind s r (heard_of s r)
 unfolding heard_of
 heard-kind s r =
     let n = number_at r 0 in
     let g = gap_of s.last n in
-    by-test (Kind s r) (is_wrong r) (Stops WrongRecord) _ (λ _. tt) (λ _.
-    by-test (Kind s r) (is_repeat g) (Goes g s) _ (λ b. inl (b, refl)) (λ b. further-kind s r n g (played_of s.tween (event_in r)) b refl))
+    by-test (Kind s r) (is_wrong r) (Err WrongRecord) _ (λ _. tt) (λ _.
+    by-test (Kind s r) (is_repeat g) (GOES g s) _ (λ b. inl (b, refl)) (λ b. further-kind s r n g (played_of s.tween (event_in r)) b refl))
 
 -- the records that were read, without the repeats, tell of the acts: then so do the tween and the folds, whatever is missing
 abbrev Told : List (List ℕ) → List Act → Past → Reading → Type 0
@@ -93,7 +91,7 @@ unfolding after_all
 stopped-told rs [] s h c e q t f _ = rw q (t, f)
 stopped-told rs (a ∷ acts) s h c e q t f z = absurd (omega (arith, ap length (rw (e, none_read rs) at z)))
 
-read_told : (r : List ℕ) (rs : List (List ℕ)) (acts : List Act) (s : Replay) (h : Past) (g : ℕ) (u : Replay) (c : Reading) → Kind s r (Goes g u) → s.tween ≡ h.tween → s.folds ≡ capped h.made
+read_told : (r : List ℕ) (rs : List (List ℕ)) (acts : List Act) (s : Replay) (h : Past) (g : ℕ) (u : Replay) (c : Reading) → Kind s r (GOES g u) → s.tween ≡ h.tween → s.folds ≡ capped h.made
     → ((more : List Act) (p : Past) → u.tween ≡ p.tween → u.folds ≡ capped p.made → Told rs more p c)
     → Told (r ∷ rs) acts h (record { gaps = g ∷ c.gaps; replay = c.replay; outcome = c.outcome })
 unfolding after_all
@@ -102,15 +100,15 @@ read_told r rs [] s h g u c (inr (b, k, p, q)) t f rest e = absurd (omega (arith
 read_told r rs (a ∷ acts) s h g u c (inr (b, k, p, q)) t f rest e =
     let e : event_in r ∷ map event_in (without_repeats rs c.gaps) ≡ map event_of (a ∷ acts) = rw b at e in
     let event : event_in r ≡ event_of a = ap (λ (l : List Event). get_or l 0 (event_of a)) e in
-    let played : played_of h.tween (event_of a) ≡ Done u.tween k = rw (t, event) at p in
+    let played : played_of h.tween (event_of a) ≡ DONE u.tween k = rw (t, event) at p in
     let i = agrees h u.tween k a played in
     rest acts (after h a) (sym i.0) (q ∙ omega (arith, f, i.1)) (ap (drop 1) e)
 
-heard-told : (r : List ℕ) (rs : List (List ℕ)) (acts : List Act) (s : Replay) (h : Past) (x : Heard) → Kind s r x → s.tween ≡ h.tween → s.folds ≡ capped h.made
+heard-told : (r : List ℕ) (rs : List (List ℕ)) (acts : List Act) (s : Replay) (h : Past) (x : Result Heard Refusal) → Kind s r x → s.tween ≡ h.tween → s.folds ≡ capped h.made
     → ((more : List Act) (u : Replay) (p : Past) → u.tween ≡ p.tween → u.folds ≡ capped p.made → Told rs more p (reading_of rs u))
     → Told (r ∷ rs) acts h (followed x s (reading_of rs))
-heard-told r rs acts s h (Goes g u) k t f rest = read_told r rs acts s h g u (reading_of rs u) k t f (λ more. rest more u)
-heard-told r rs acts s h (Stops x) k t f rest = stopped-told (r ∷ rs) acts s h (stopped s x) refl refl t f
+heard-told r rs acts s h (GOES g u) k t f rest = read_told r rs acts s h g u (reading_of rs u) k t f (λ more. rest more u)
+heard-told r rs acts s h (Err x) k t f rest = stopped-told (r ∷ rs) acts s h (stopped s x) refl refl t f
 
 told : (rs : List (List ℕ)) (acts : List Act) (s : Replay) (h : Past) → s.tween ≡ h.tween → s.folds ≡ capped h.made → Told rs acts h (reading_of rs s)
 unfolding reading_of

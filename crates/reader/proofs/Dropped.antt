@@ -1,15 +1,12 @@
 -- What the reader counts where records were dropped from a log. Assumes nothing.
+use Rattle.std.specs.Prelude.{Err, None, Ok, Option, Result, Some, ⊤}
 use Rattle.std.proofs.Common.{◌≡◌, ℕ, zero, suc, ◌+◌, ◌-◌, ◌%◌, ◌<◌, ◌≤◌, Bool, true, false, cond, T, eqb, ltb, List, [], ◌∷◌, ◌++◌, length, get_or, refl, ap, ◌∙◌, mod-lt, mod-eq_of_lt, zero-add, arith, length-append, get_or-append-add, ltb-false, ltb-true, le-ltb, lt-ltb, eq-eqb, ne_eqb, eqb-true}
 use borrow.Author.Tests.{eqb-false}
 use lib.ListN.{get_or-append}
 use Rattle.math.specs.Lists.{every, split}
-use Rattle.steps.specs.declared.run.Outcome.{Outcome}
-use Rattle.steps.specs.declared.run.Outcome.TheVariants as outcome
 use Rattle.event_log.specs.declared.event.Event.{Event}
 use Rattle.event_log.specs.Format.{records_from}
 use Rattle.event_log.specs.Writing.{may_be_logged}
-use Rattle.reader.specs.declared.gaps.Last.{Last}
-use Rattle.reader.specs.declared.gaps.Last.TheVariants.{Unread, Number}
 use Rattle.reader.specs.declared.hear.Replay.{Replay}
 use Rattle.reader.specs.Hearing.{capped, gap_of}
 use Rattle.reader.specs.Reading.{Reading, reading_of, joined_by}
@@ -17,6 +14,7 @@ use Rattle.reader.specs.Promises.{is_f32}
 use Rattle.reader.proofs.Counting.{gap-lost}
 use Rattle.reader.proofs.Parts.{reads_on}
 use Rattle.reader.proofs.Followed.{since, Follows, last_of, follows, few, each, no_gap}
+use Rattle.refusal.specs.declared.Refusal.{Refusal}
 
 -- k are missing before the record at place i
 abbrev pub Missing : ℕ → ℕ → Reading → Type 0
@@ -78,27 +76,27 @@ module _ (i k : ℕ) (first : Reading) (s : Replay) (from : s.missing ≡ 0) (f 
     went_on : Missing i k both
     went_on = (λ j l. placed j l (ltb j i) refl, missed-there last.gaps refl)
 
-module _ (k : ℕ) (some : 1 ≤ k) (most : k ≤ 65534) (ds qs : List Event) (fd : T (every is_f32 ds)) (fq : T (every is_f32 qs)) (D : T (every may_be_logged ds)) (Q : T (every may_be_logged qs)) (middle : 1 ≤ length ds) (s : Replay) (from : s.missing ≡ 0) (unread : s.last ≡ Unread) where
+module _ (k : ℕ) (some : 1 ≤ k) (most : k ≤ 65534) (ds qs : List Event) (fd : T (every is_f32 ds)) (fq : T (every is_f32 qs)) (D : T (every may_be_logged ds)) (Q : T (every may_be_logged qs)) (middle : 1 ≤ length ds) (s : Replay) (from : s.missing ≡ 0) (unread : s.last ≡ None) where
   -- the log without the records between ds and qs
   abbrev records : List (List ℕ)
   records = split 8 (length ds) (records_from 0 ds) ++ split 8 (length qs) (records_from ((length ds + k) % 65536) qs)
 
   first-follows : Follows (length ds) 0 s 0 (reading_of (split 8 (length ds) (records_from 0 ds)) s)
-  first-follows = follows ds 0 s 0 fd D (omega arith) (ap (λ (l : Last). gap_of l 0) unread) (λ z. omega (arith, z))
+  first-follows = follows ds 0 s 0 fd D (omega arith) (ap (λ (l : Option ℕ). gap_of l 0) unread) (λ z. omega (arith, z))
 
-  gap-there : (n : ℕ) (l : Last) → l ≡ last_of 0 n Unread → 1 ≤ n → gap_of l ((n + k) % 65536) ≡ k
+  gap-there : (n : ℕ) (l : Option ℕ) → l ≡ last_of 0 n None → 1 ≤ n → gap_of l ((n + k) % 65536) ≡ k
   gap-there zero l q h = absurd (omega arith)
   gap-there (suc n) l q h =
       let e : (suc n + k) % 65536 ≡ (n + suc k) % 65536 = ap (λ (x : ℕ). x % 65536) (omega arith) in
-      ap (λ (x : Last). gap_of x ((suc n + k) % 65536)) (q ∙ ap (λ (x : ℕ). Number (x % 65536)) (zero-add n))
-      ∙ ap (gap_of (Number (n % 65536))) e
+      ap (λ (x : Option ℕ). gap_of x ((suc n + k) % 65536)) (q ∙ ap (λ (x : ℕ). Some (x % 65536)) (zero-add n))
+      ∙ ap (gap_of (Some (n % 65536))) e
       ∙ gap-lost n k
       ∙ mod-eq_of_lt (omega arith)
 
-  counted : (o : Outcome) → let c = reading_of (split 8 (length ds) (records_from 0 ds)) s in c.outcome ≡ o
+  counted : (o : Result ⊤ Refusal) → let c = reading_of (split 8 (length ds) (records_from 0 ds)) s in c.outcome ≡ o
       → Missing (length ds) k (joined_by o c (reading_of (split 8 (length qs) (records_from ((length ds + k) % 65536) qs))))
-  counted (outcome.Refused r) e = stopped-before (length ds) k (reading_of (split 8 (length ds) (records_from 0 ds)) s) s from first-follows
-  counted outcome.Finished e =
+  counted (Err r) e = stopped-before (length ds) k (reading_of (split 8 (length ds) (records_from 0 ds)) s) s from first-follows
+  counted Ok tt e =
       let c = reading_of (split 8 (length ds) (records_from 0 ds)) s in
       let f = first-follows.2 e in
       let n = (length ds + k) % 65536 in

@@ -1,4 +1,5 @@
 -- The request's own numbers, and a log with a repeat, computed from the definition. Assumes nothing.
+use Rattle.std.specs.Prelude.{None, Some}
 use Rattle.std.proofs.Common.{◌≡◌, ℕ, ◌+◌, ◌%◌, false, List, [], ◌∷◌, ◌++◌, refl, arith, lit<, lit≤}
 use lib.Ieee.{add, sub, mul, neg, sum, lt, le, eq, round, of_int, of_bits, to_bits}
 use Rattle.math.specs.Lists.{split}
@@ -18,33 +19,32 @@ use Rattle.tween.specs.Update.{folded, advanced, wait_of, run_of, by_state, upda
 use Rattle.history.specs.History.{Act, step, after_all, Settings, Holds}
 use Rattle.event_log.specs.declared.event.Event.TheVariants.{Step}
 use Rattle.event_log.specs.Format.{head, record_of}
-use Rattle.reader.specs.declared.gaps.Last.TheVariants.{Unread, Number}
 use Rattle.reader.specs.Records.{is_wrong, event_in}
 use Rattle.reader.specs.Hearing.{gap_of, played_of, heard_of}
 use Rattle.reader.specs.Reading.{Reading, reading_of, read_on_of, replay_of}
 use Rattle.reader.proofs.Demanded.{replay-demand-3}
 
 -- "0 for the first", whatever its number
-pub first-gap : gap_of Unread 7 ≡ 0
+pub first-gap : gap_of None 7 ≡ 0
 first-gap = refl
 
 -- "513 means 512 missing"
-pub gap-512 : gap_of (Number 7) 520 ≡ 512
+pub gap-512 : gap_of (Some 7) 520 ≡ 512
 gap-512 = refl
 
 -- "wrapping"
-pub gap-wraps : gap_of (Number 65535) 0 ≡ 0
+pub gap-wraps : gap_of (Some 65535) 0 ≡ 0
 gap-wraps = refl
 
 -- "The same number again gives 65,535"
-pub same-again : gap_of (Number 7) 7 ≡ 65535
+pub same-again : gap_of (Some 7) 7 ≡ 65535
 same-again = refl
 
 -- "A loss of 65,535 or more can't be told rightly": of 65,535 it looks like a repeat, of 65,536 like none
-pub lost-65535 : gap_of (Number 7) ((8 + 65535) % 65536) ≡ 65535
+pub lost-65535 : gap_of (Some 7) ((8 + 65535) % 65536) ≡ 65535
 lost-65535 = refl
 
-pub lost-65536 : gap_of (Number 7) ((8 + 65536) % 65536) ≡ 0
+pub lost-65536 : gap_of (Some 7) ((8 + 65536) % 65536) ≡ 0
 lost-65536 = refl
 
 -- Forever, a pass takes 1 s; just reset

@@ -1,4 +1,5 @@
 -- What the reader makes of records by our writer, one behind the other. Assumes nothing.
+use Rattle.std.specs.Prelude.{Err, Ok, Option, Result, Some, ⊤}
 use Rattle.std.proofs.Common.{◌≡◌, ℕ, zero, suc, ◌+◌, ◌%◌, ◌<◌, ◌≤◌, Bool, true, false, cond, not, T, eqb, List, [], ◌∷◌, length, get_or, take, replicate, sym, refl, ap, ◌∙◌, mod-lt, arith, length-take, get_or-take, ne_eqb}
 use mathlib.Core.Bool.{false≢true}
 use borrow.Author.Tests.{not-true}
@@ -7,21 +8,17 @@ use lib.Ieee.Bits.{is_true}
 use lib.ListN.{length-replicate}
 use Rattle.math.specs.Lists.{every, split}
 use Rattle.math.proofs.Choice.{and_both}
-use Rattle.steps.specs.declared.run.Outcome.{Outcome}
-use Rattle.steps.specs.declared.run.Outcome.TheVariants as outcome
 use Rattle.event_log.specs.declared.event.Event.{Event}
 use Rattle.event_log.specs.Format.{next, record_of, records_from}
 use Rattle.event_log.specs.Writing.{is_long, is_backward, may_be_logged}
-use Rattle.reader.specs.declared.gaps.Last.{Last}
-use Rattle.reader.specs.declared.gaps.Last.TheVariants.{Number}
 use Rattle.reader.specs.declared.hear.Replay.{Replay}
 use Rattle.reader.specs.declared.hear.Played.{Played}
-use Rattle.reader.specs.declared.hear.Played.TheVariants.{Done, Refused}
 use Rattle.reader.specs.Hearing.{capped, gap_of, played_of, further, heard_of}
 use Rattle.reader.specs.Reading.{Reading, followed, reading_of}
 use Rattle.reader.specs.Promises.{is_f32}
 use Rattle.reader.proofs.Counting.{gap-next}
 use Rattle.reader.proofs.Recorded.{hears-recorded}
+use Rattle.refusal.specs.declared.Refusal.{Refusal}
 
 -- a gap before the first of n records, and none before the others
 abbrev pub gap_then : ℕ → ℕ → List ℕ
@@ -29,9 +26,9 @@ gap_then g zero = []
 gap_then g (suc n) = g ∷ replicate n 0
 
 -- the last of n numbers, from one on
-abbrev pub last_of : ℕ → ℕ → Last → Last
+abbrev pub last_of : ℕ → ℕ → Option ℕ → Option ℕ
 last_of number zero l = l
-last_of number (suc n) l = Number ((number + n) % 65536)
+last_of number (suc n) l = Some ((number + n) % 65536)
 
 -- what was missing before the first record, or what is missing from it on
 abbrev pub since : List ℕ → ℕ → ℕ → ℕ
@@ -43,11 +40,11 @@ abbrev pub Follows : ℕ → ℕ → Replay → ℕ → Reading → Type 0
 Follows m number s g c =
     (c.gaps ≡ take (length c.gaps) (gap_then g m))
     × (c.replay.missing ≡ since c.gaps s.missing (capped (s.missing + g)))
-    × (c.outcome ≡ outcome.Finished → (length c.gaps ≡ m) × (c.replay.last ≡ last_of number m s.last))
+    × (c.outcome ≡ Ok tt → (length c.gaps ≡ m) × (c.replay.last ≡ last_of number m s.last))
 
-is_finished : Outcome → Bool
-is_finished outcome.Finished = true
-is_finished (outcome.Refused r) = false
+is_finished : Result ⊤ Refusal → Bool
+is_finished Ok tt = true
+is_finished (Err r) = false
 
 -- what was missing stays, with no gap more
 stays : (gs : List ℕ) (n : ℕ) → since gs (capped n) (capped (capped n + 0)) ≡ capped n
@@ -58,17 +55,17 @@ front-again : (m n : ℕ) → take n (gap_then 0 m) ≡ take n (replicate m 0)
 front-again zero n = refl
 front-again (suc m) n = refl
 
-last_on : (number m : ℕ) → number < 65536 → last_of (next number) m (Number number) ≡ Number ((number + m) % 65536)
-last_on number zero h = ap Number (omega arith)
-last_on number (suc m) h = ap Number (omega arith)
+last_on : (number m : ℕ) → number < 65536 → last_of (next number) m (Some number) ≡ Some ((number + m) % 65536)
+last_on number zero h = ap Some (omega arith)
+last_on number (suc m) h = ap Some (omega arith)
 
-one : (m number : ℕ) (s : Replay) (g : ℕ) (p : Played) (rest : Replay → Reading) → number < 65536
-    → ((u : Replay) → u.last ≡ Number number → Follows m (next number) u 0 (rest u))
+one : (m number : ℕ) (s : Replay) (g : ℕ) (p : Result Played Refusal) (rest : Replay → Reading) → number < 65536
+    → ((u : Replay) → u.last ≡ Some number → Follows m (next number) u 0 (rest u))
     → Follows (suc m) number s g (followed (further p s number g) s rest)
 unfolding is_finished
-one m number s g (Refused r) rest N h = (refl, refl, λ q. absurd (false≢true (ap is_finished q)))
-one m number s g (Done u k) rest N h =
-    let v : Replay = record { tween = u; last = Number number; missing = capped (s.missing + g); folds = capped (s.folds + k) } in
+one m number s g (Err r) rest N h = (refl, refl, λ q. absurd (false≢true (ap is_finished q)))
+one m number s g (DONE u k) rest N h =
+    let v : Replay = record { tween = u; last = Some number; missing = capped (s.missing + g); folds = capped (s.folds + k) } in
     let i = h v refl in
     (ap (λ (l : List ℕ). g ∷ l) (i.0 ∙ front-again m (length (rest v).gaps)), i.1 ∙ stays (rest v).gaps (s.missing + g), λ q. (ap suc (i.2 q).0, (i.2 q).1 ∙ last_on number m N))
 
@@ -85,7 +82,7 @@ follows (e ∷ es) number s g F L N G new =
     in
     rw heard
     (one (length es) number s g (played_of s.tween e) (reading_of (split 8 (length es) (records_from (next number) es))) N (λ u q.
-    follows es (next number) u 0 (and_r (is_f32 e) (every is_f32 es) F) (and_r (may_be_logged e) (every may_be_logged es) L) (mod-lt (number + 1) (omega arith)) (ap (λ (l : Last). gap_of l (next number)) q ∙ gap-next number N) (λ z. omega (arith, z))))
+    follows es (next number) u 0 (and_r (is_f32 e) (every is_f32 es) F) (and_r (may_be_logged e) (every may_be_logged es) L) (mod-lt (number + 1) (omega arith)) (ap (λ (l : Option ℕ). gap_of l (next number)) q ∙ gap-next number N) (λ z. omega (arith, z))))
 
 zeros : (n j : ℕ) → get_or (replicate {A = ℕ} n 0) j 0 ≡ 0
 zeros zero j = refl

@@ -1,4 +1,5 @@
 -- A log in parts: part after part gives what the whole gives. Assumes nothing.
+use Rattle.std.specs.Prelude.{Err, Ok, Result, ⊤}
 use Rattle.std.proofs.Common.{◌≡◌, ℕ, ◌+◌, ◌/◌, ◌%◌, ◌≤◌, Bool, true, false, ◌&&◌, eqb, List, [], ◌∷◌, ◌++◌, length, drop, sym, refl, ap, ◌∙◌, arith, length-append, length-drop}
 use lib.Seq.{drop-append-le}
 use Rattle.math.specs.Lists.{split}
@@ -7,12 +8,9 @@ use Rattle.refusal.specs.declared.Refusal.{Refusal}
 use Rattle.refusal.specs.declared.Refusal.TheVariants.{RecordBreaksLimit, WrongMark, UnknownVersion}
 use Rattle.refusal.specs.Refusing.{unless}
 use Rattle.tween.specs.Limits.{within_of}
-use Rattle.steps.specs.declared.run.Outcome.{Outcome}
-use Rattle.steps.specs.declared.run.Outcome.TheVariants.{Finished, Refused}
 use Rattle.event_log.specs.Format.{mark, version, starts_with}
 use Rattle.reader.specs.declared.hear.Replay.{Replay}
 use Rattle.reader.specs.declared.hear.Heard.{Heard}
-use Rattle.reader.specs.declared.hear.Heard.TheVariants.{Goes, Stops}
 use Rattle.reader.specs.Records.{records_of}
 use Rattle.reader.specs.Hearing.{heard_of}
 use Rattle.reader.specs.Reading.{Reading, stopped, followed, reading_of, read_on_of, begin_of, replay_of, joined_by, joined}
@@ -20,18 +18,18 @@ use Rattle.reader.specs.Promises.{PartByPart, LogPartByPart}
 use Rattle.reader.proofs.Refusals.{reads}
 
 -- a gap before those of two readings, or before those of the first
-gap-before : (g : ℕ) (o : Outcome) (c : Reading) (rest : Replay → Reading) → let d = joined_by o c rest in
+gap-before : (g : ℕ) (o : Result ⊤ Refusal) (c : Reading) (rest : Replay → Reading) → let d = joined_by o c rest in
     record { gaps = g ∷ d.gaps; replay = d.replay; outcome = d.outcome } ≡ joined_by o (record { gaps = g ∷ c.gaps; replay = c.replay; outcome = c.outcome }) rest
-gap-before g Finished c rest = refl
-gap-before g (Refused r) c rest = refl
+gap-before g Ok tt c rest = refl
+gap-before g (Err r) c rest = refl
 
 -- one record more in front
-one_more : (rs qs : List (List ℕ)) (s : Replay) (h : Heard) → ((u : Replay) → reading_of (rs ++ qs) u ≡ joined (reading_of rs u) (reading_of qs))
+one_more : (rs qs : List (List ℕ)) (s : Replay) (h : Result Heard Refusal) → ((u : Replay) → reading_of (rs ++ qs) u ≡ joined (reading_of rs u) (reading_of qs))
     → followed h s (reading_of (rs ++ qs)) ≡ joined (followed h s (reading_of rs)) (reading_of qs)
-one_more rs qs s (Goes g u) rest =
+one_more rs qs s (GOES g u) rest =
     ap (λ (c : Reading). record { gaps = g ∷ c.gaps; replay = c.replay; outcome = c.outcome }) (rest u)
     ∙ gap-before g (reading_of rs u).outcome (reading_of rs u) (reading_of qs)
-one_more rs qs s (Stops x) rest = refl
+one_more rs qs s (Err x) rest = refl
 
 pub reads_on : (rs qs : List (List ℕ)) (s : Replay) → reading_of (rs ++ qs) s ≡ joined (reading_of rs s) (reading_of qs)
 unfolding reading_of
@@ -39,9 +37,9 @@ reads_on [] qs s = refl
 reads_on (r ∷ rs) qs s = one_more rs qs s (heard_of s r) (reads_on rs qs)
 
 -- what follows, told in two ways
-same_rest : (o : Outcome) (c : Reading) (f g : Replay → Reading) → ((u : Replay) → f u ≡ g u) → joined_by o c f ≡ joined_by o c g
-same_rest Finished c f g h = ap (λ (d : Reading). record { gaps = c.gaps ++ d.gaps; replay = d.replay; outcome = d.outcome }) (h c.replay)
-same_rest (Refused r) c f g h = refl
+same_rest : (o : Result ⊤ Refusal) (c : Reading) (f g : Replay → Reading) → ((u : Replay) → f u ≡ g u) → joined_by o c f ≡ joined_by o c g
+same_rest Ok tt c f g h = ap (λ (d : Reading). record { gaps = c.gaps ++ d.gaps; replay = d.replay; outcome = d.outcome }) (h c.replay)
+same_rest (Err r) c f g h = refl
 
 pub records-both : (a b : List ℕ) → length a % 8 ≡ 0 → records_of (a ++ b) ≡ records_of a ++ records_of b
 records-both a b h =

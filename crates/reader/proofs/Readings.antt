@@ -1,15 +1,13 @@
 -- How a reading stands after its first i records, and how it goes on and ends from there. Assumes nothing.
+use Rattle.std.specs.Prelude.{Err, Ok, Result, ⊤}
 use Rattle.std.proofs.Common.{◌≡◌, ℕ, suc, ◌+◌, ◌*◌, ◌/◌, ◌%◌, ◌<◌, ◌≤◌, List, [], ◌∷◌, ◌++◌, length, take, drop, set, refl, ap, ◌∙◌, append_assoc, append-nil, arith, length-drop, length-set}
 use lib.Seq.{drop-length}
 use Rattle.math.specs.Lists.{split}
 use Rattle.math.proofs.Parts.{split-next}
 use Rattle.refusal.specs.declared.Refusal.{Refusal}
-use Rattle.steps.specs.declared.run.Outcome.{Outcome}
-use Rattle.steps.specs.declared.run.Outcome.TheVariants.{Finished, Refused}
 use Rattle.steps.specs.Course.{over}
 use Rattle.steps.proofs.Fronts.{Written, more}
 use Rattle.reader.specs.declared.hear.Replay.{Replay}
-use Rattle.reader.specs.declared.hear.Heard.TheVariants.{Goes, Stops}
 use Rattle.reader.specs.Records.{records_of}
 use Rattle.reader.specs.Hearing.{heard_of}
 use Rattle.reader.specs.Reading.{Reading, ended, reading_of, answer_of}
@@ -45,7 +43,7 @@ module _ (bytes gaps₀ : List ℕ) (s₀ : Replay) where
     pub place : i < length bytes / 8 → i < length gaps
     place h = omega (arith, r.gaps-long)
 
-    pub goes_on : (g : ℕ) (u : Replay) → i < length bytes / 8 → heard_of s (take 8 (drop (i * 8) bytes)) ≡ Goes g u → Reached bytes gaps₀ s₀ (set gaps i g) u (i + 1)
+    pub goes_on : (g : ℕ) (u : Replay) → i < length bytes / 8 → heard_of s (take 8 (drop (i * 8) bytes)) ≡ GOES g u → Reached bytes gaps₀ s₀ (set gaps i g) u (i + 1)
     unfolding reading_of
     goes_on g u h e =
         record {
@@ -57,16 +55,16 @@ module _ (bytes gaps₀ : List ℕ) (s₀ : Replay) where
         }
 
     -- the reading ends here
-    ends : (o : Outcome) → reading_of (records_of (drop (i * 8) bytes)) s ≡ ended s o
+    ends : (o : Result ⊤ Refusal) → reading_of (records_of (drop (i * 8) bytes)) s ≡ ended s o
         → (record { reached = s; done = i; outcome = o } ≡ answer_of (reading_of (records_of bytes) s₀)) × (gaps ≡ over (reading_of (records_of bytes) s₀).gaps gaps₀)
     ends o e = rw (r.reading-is, e, append-nil r.front, r.gaps-are.0) (refl, r.gaps-are.1)
 
-    pub stops : (x : Refusal) → i < length bytes / 8 → heard_of s (take 8 (drop (i * 8) bytes)) ≡ Stops x
-        → (record { reached = s; done = i; outcome = Refused x } ≡ answer_of (reading_of (records_of bytes) s₀)) × (gaps ≡ over (reading_of (records_of bytes) s₀).gaps gaps₀)
+    pub stops : (x : Refusal) → i < length bytes / 8 → heard_of s (take 8 (drop (i * 8) bytes)) ≡ Err x
+        → (record { reached = s; done = i; outcome = Err x } ≡ answer_of (reading_of (records_of bytes) s₀)) × (gaps ≡ over (reading_of (records_of bytes) s₀).gaps gaps₀)
     unfolding reading_of
-    stops x h e = ends (Refused x) (rw (records-next bytes i h, e))
+    stops x h e = ends (Err x) (rw (records-next bytes i h, e))
 
     pub finishes : length bytes / 8 ≤ i
-        → (record { reached = s; done = i; outcome = Finished } ≡ answer_of (reading_of (records_of bytes) s₀)) × (gaps ≡ over (reading_of (records_of bytes) s₀).gaps gaps₀)
+        → (record { reached = s; done = i; outcome = Ok tt } ≡ answer_of (reading_of (records_of bytes) s₀)) × (gaps ≡ over (reading_of (records_of bytes) s₀).gaps gaps₀)
     unfolding reading_of split
-    finishes h = let e : i * 8 ≡ length bytes = omega (arith, r.few) in ends Finished (ap (λ (n : ℕ). reading_of (records_of (drop n bytes)) s) e ∙ (rw (drop-length bytes)))
+    finishes h = let e : i * 8 ≡ length bytes = omega (arith, r.few) in ends Ok tt (ap (λ (n : ℕ). reading_of (records_of (drop n bytes)) s) e ∙ (rw (drop-length bytes)))

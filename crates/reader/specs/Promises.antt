@@ -1,27 +1,23 @@
 -- Request 3, "Read it back and count the gaps": what holds of every replay. Each sentence is a type; its proof has its name in small letters.
-use Rattle.std.specs.Prelude.{◌≡◌, ℕ, suc, ◌+◌, ◌*◌, ◌/◌, ◌%◌, ◌<◌, ◌≤◌, Bool, true, cond, not, ◌||◌, T, List, [], ◌∷◌, ◌++◌, map, length, take, drop, replicate, ◌==◌, nat_lt, slice_index}
+use Rattle.std.specs.Prelude.{◌≡◌, ℕ, suc, ◌+◌, ◌*◌, ◌/◌, ◌%◌, ◌<◌, ◌≤◌, Bool, true, cond, not, ◌||◌, T, List, [], ◌∷◌, ◌++◌, map, length, take, drop, replicate, ◌==◌, nat_lt, slice_index, Err, Ok, Result, Some}
 use Rattle.std.specs.Float.{binary32}
 use Rattle.std.specs.Float.Ieee.{fits}
 use Rattle.math.specs.Lists.{every}
 use Rattle.math.specs.Rounded.{whole_f}
 use Rattle.tween.specs.declared.record.Tween.{Tween}
-use Rattle.tween.specs.declared.answers.Changed.TheVariants as changed
 use Rattle.tween.specs.Limits.{within_of}
 use Rattle.tween.specs.Calls.{reset_of}
 use Rattle.history.specs.History.{Act, step, pause, resume, AllSmall, Past, after_all, fresh, scaled, Settings, Holds}
-use Rattle.steps.specs.declared.run.Outcome.TheVariants.{Finished}
 use Rattle.event_log.specs.declared.event.Event.{Event}
 use Rattle.event_log.specs.declared.event.Event.TheVariants.{Step, Pause, Resume}
 use Rattle.event_log.specs.Format.{step_of, log_of}
-use Rattle.event_log.specs.declared.writer.Logged.TheVariants.{Written}
 use Rattle.event_log.specs.Writing.{head_in, is_backward, may_be_logged, records_in}
-use Rattle.reader.specs.declared.gaps.Last.TheVariants.{Number}
 use Rattle.reader.specs.declared.hear.Replay.{Replay}
 use Rattle.reader.specs.declared.hear.Played.{Played}
-use Rattle.reader.specs.declared.hear.Played.TheVariants.{Done, Refused}
 use Rattle.reader.specs.Records.{records_of, event_in}
 use Rattle.reader.specs.Hearing.{gap_of, is_repeat, capped, played_of}
 use Rattle.reader.specs.Reading.{read_on_of, replay_of, joined}
+use Rattle.refusal.specs.declared.Refusal.{Refusal}
 
 -- what "a run of updates, pauses, resumes and resets alone" leaves: the tween, "its accepted calls, in order", and the folds of its updates
 pub record RunLeft : Type 0 where
@@ -30,11 +26,11 @@ pub record RunLeft : Type 0 where
   pub folds : ℕ
 
 -- a call of a run, and the rest; a refused one hands the tween back
-abbrev pub left_with : Played → Event → Tween → (Tween → RunLeft) → RunLeft
-left_with (Done u k) e t rest =
+abbrev pub left_with : Result Played Refusal → Event → Tween → (Tween → RunLeft) → RunLeft
+left_with (DONE u k) e t rest =
     let c = rest u in
     record { tween = c.tween; calls = e ∷ c.calls; folds = k + c.folds }
-left_with (Refused r) e t rest = rest t
+left_with (Err r) e t rest = rest t
 
 unfoldable pub left_by : List Event → Tween → RunLeft
 left_by [] t = record { tween = t; calls = []; folds = 0 }
@@ -56,9 +52,9 @@ GivesBack =
     let n = length run.calls in 5 + 8 * n ≤ length buffer → n ≤ length list
     → let w = records_in run.calls (head_in buffer) in
     let c = replay_of t (take (5 + 8 * n) w.buffer) list in
-    (w.answer ≡ Written (5 + 8 * n))
+    (w.answer ≡ Ok (5 + 8 * n))
     × (c.gaps ≡ replicate n 0)
-    × (c.outcome ≡ Finished)
+    × (c.outcome ≡ Ok tt)
     × (c.replay.tween ≡ run.tween)
     × (c.replay.missing ≡ 0)
     × (c.replay.folds ≡ capped run.folds)
@@ -78,7 +74,7 @@ CountsDropped =
 
 -- "A loss of 65,535 or more can't be told rightly": of k numbers that were lost, the gap tells k modulo 65,536
 abbrev pub GapLost : Type 0
-GapLost = (n k : ℕ) → gap_of (Number (n % 65536)) ((n + suc k) % 65536) ≡ k % 65536
+GapLost = (n k : ℕ) → gap_of (Some (n % 65536)) ((n + suc k) % 65536) ≡ k % 65536
 
 -- an act of demand 3, as a log has it
 abbrev pub event_of : Act → Event
@@ -99,7 +95,7 @@ without_repeats (r ∷ rs) (gap ∷ gaps) = cond (is_repeat gap) (without_repeat
 -- "Demand 3 holds for a replay, from its tween and whole steps, with no gap and no reset record, its folds being that sum, short of the cap". The records that were read, without the repeats, tell of the acts
 abbrev pub ReplayDemand3 : Type 0
 ReplayDemand3 =
-    (t u : Tween) (D W s : ℕ) → Settings t D W s → reset_of t ≡ changed.Done u
+    (t u : Tween) (D W s : ℕ) → Settings t D W s → reset_of t ≡ Ok u
     → (log list : List ℕ) (acts : List Act) → AllSmall acts
     → let c = replay_of u log list in
     map event_in (without_repeats (records_of (drop 5 log)) c.gaps) ≡ map event_of acts

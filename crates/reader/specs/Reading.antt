@@ -1,17 +1,13 @@
 -- Request 3, "Read it back and count the gaps": a whole log, and one that is read in parts.
-use Rattle.std.specs.Prelude.{ℕ, ◌/◌, ◌%◌, List, [], ◌∷◌, ◌++◌, length, drop, ◌==◌, nat_le}
+use Rattle.std.specs.Prelude.{ℕ, ◌/◌, ◌%◌, List, [], ◌∷◌, ◌++◌, length, drop, ◌==◌, nat_le, Err, None, Ok, Result, ⊤}
 use Rattle.refusal.specs.declared.Refusal.{Refusal}
 use Rattle.refusal.specs.declared.Refusal.TheVariants.{RecordBreaksLimit, OutputTooShort, WrongMark, UnknownVersion, WrongLength}
 use Rattle.refusal.specs.Refusing.{unless}
 use Rattle.tween.specs.declared.record.Tween.{Tween}
 use Rattle.tween.specs.Limits.{within_of}
-use Rattle.steps.specs.declared.run.Outcome.{Outcome}
-use Rattle.steps.specs.declared.run.Outcome.TheVariants.{Finished, Refused}
 use Rattle.event_log.specs.Format.{mark, version, starts_with}
-use Rattle.reader.specs.declared.gaps.Last.TheVariants.{Unread}
 use Rattle.reader.specs.declared.hear.Replay.{Replay}
 use Rattle.reader.specs.declared.hear.Heard.{Heard}
-use Rattle.reader.specs.declared.hear.Heard.TheVariants.{Goes, Stops}
 use Rattle.reader.specs.declared.read.Replayed.{Replayed}
 use Rattle.reader.specs.Records.{records_of}
 use Rattle.reader.specs.Hearing.{heard_of}
@@ -20,26 +16,26 @@ use Rattle.reader.specs.Hearing.{heard_of}
 pub record Reading : Type 0 where
   pub gaps : List ℕ
   pub replay : Replay
-  pub outcome : Outcome
+  pub outcome : Result ⊤ Refusal
 
 -- no record read
-abbrev pub ended : Replay → Outcome → Reading
+abbrev pub ended : Replay → Result ⊤ Refusal → Reading
 ended s o = record { gaps = []; replay = s; outcome = o }
 
 -- no record read, and refused
 abbrev pub stopped : Replay → Refusal → Reading
-stopped s r = ended s (Refused r)
+stopped s r = ended s (Err r)
 
 -- a record, and the rest; or the first refusal, with "the tween as it stood, the total of the records before it and the list unwritten from there on"
-abbrev pub followed : Heard → Replay → (Replay → Reading) → Reading
-followed (Goes gap u) s rest =
+abbrev pub followed : Result Heard Refusal → Replay → (Replay → Reading) → Reading
+followed (GOES gap u) s rest =
     let c = rest u in
     record { gaps = gap ∷ c.gaps; replay = c.replay; outcome = c.outcome }
-followed (Stops r) s rest = stopped s r
+followed (Err r) s rest = stopped s r
 
 -- "A reader replays a PEL log into a tween", record by record
 unfoldable pub reading_of : List (List ℕ) → Replay → Reading
-reading_of [] s = ended s Finished
+reading_of [] s = ended s Ok tt
 reading_of (r ∷ rs) s = followed (heard_of s r) s (reading_of rs)
 
 -- "17 tail shorter than a record, 12 list shorter than the records, tested in that order before any replay"
@@ -51,7 +47,7 @@ read_on_of s bytes list =
 
 -- nothing read yet
 abbrev pub begin_of : Tween → Replay
-begin_of t = record { tween = t; last = Unread; missing = 0; folds = 0 }
+begin_of t = record { tween = t; last = None; missing = 0; folds = 0 }
 
 -- "Refusals: 4, 15, 16," and then as above, behind the head's 5 bytes
 unfoldable pub replay_of : Tween → List ℕ → List ℕ → Reading
@@ -66,11 +62,11 @@ abbrev pub answer_of : Reading → Replayed
 answer_of c = record { reached = c.replay; done = length c.gaps; outcome = c.outcome }
 
 -- a reading that ended so, and what follows it in the log: behind a refusal nothing is read
-abbrev pub joined_by : Outcome → Reading → (Replay → Reading) → Reading
-joined_by Finished c rest =
+abbrev pub joined_by : Result ⊤ Refusal → Reading → (Replay → Reading) → Reading
+joined_by Ok tt c rest =
     let d = rest c.replay in
     record { gaps = c.gaps ++ d.gaps; replay = d.replay; outcome = d.outcome }
-joined_by (Refused r) c rest = c
+joined_by (Err r) c rest = c
 
 abbrev pub joined : Reading → (Replay → Reading) → Reading
 joined c rest = joined_by c.outcome c rest

@@ -10,12 +10,12 @@ pub enum Last {
 }
 
 // 65,535 where the number is the one before again.
-pub fn gap_before(last: Last, number: u16) -> u16
+pub fn gap_before(last: Option<u16>, number: u16) -> u16
     ensures { result ≡ gap_of last number }
 {
     match last {
-        Last::Unread => 0,
-        Last::Number(before) => {
+        None => 0,
+        Some(before) => {
             std::num::wrapping_sub_u16(std::num::wrapping_sub_u16(number, before), 1)
         }
     }

@@ -7,7 +7,7 @@ mod read;
 mod record;
 mod skim;
 
-pub use gaps::{Last, capped_add};
+pub use gaps::capped_add;
 pub use hear::Replay;
 pub use read::{Replayed, record_at, replay, replay_on};
 pub use record::{number_in, step_in};

@@ -4,12 +4,11 @@ ghost use Rattle.steps.specs.Course.{over};
 ghost use Rattle.reader.specs.Records.{records_of};
 ghost use Rattle.reader.specs.Reading.{reading_of, read_on_of, replay_of, answer_of};
 
-use crate::gaps::{Last, capped_add};
+use crate::gaps::capped_add;
 use crate::hear::{Heard, Replay, hear};
 use crate::skim::{Skimmed, skim};
 use event_log::{has_mark, has_version};
 use refusal::Refusal;
-use steps::Outcome;
 use tween::{Tween, within};
 
 // done is how many records were read: where the replay stopped, the place of the record that was
@@ -18,10 +17,10 @@ use tween::{Tween, within};
 pub struct Replayed {
     pub reached: Replay,
     pub done: usize,
-    pub outcome: Outcome,
+    pub outcome: Result<(), Refusal>,
 }
 
-fn so_far(tween: Tween, last: Last, missing: u64, folds: u64) -> Replay
+fn so_far(tween: Tween, last: Option<u16>, missing: u64, folds: u64) -> Replay
     ensures { result ≡ record { tween = tween; last = last; missing = missing; folds = folds } }
 {
     Replay {
@@ -32,7 +31,7 @@ fn so_far(tween: Tween, last: Last, missing: u64, folds: u64) -> Replay
     }
 }
 
-fn answer(reached: Replay, done: usize, outcome: Outcome) -> Replayed
+fn answer(reached: Replay, done: usize, outcome: Result<(), Refusal>) -> Replayed
     ensures { result ≡ record { reached = reached; done = done; outcome = outcome } }
 {
     Replayed {
@@ -43,9 +42,9 @@ fn answer(reached: Replay, done: usize, outcome: Outcome) -> Replayed
 }
 
 fn stopped(reached: Replay, done: usize, refusal: Refusal) -> Replayed
-    ensures { result ≡ record { reached = reached; done = done; outcome = Outcome.Refused refusal } }
+    ensures { result ≡ record { reached = reached; done = done; outcome = Err refusal } }
 {
-    answer(reached, done, Outcome::Refused(refusal))
+    answer(reached, done, Err(refusal))
 }
 
 pub fn record_at(records: &[u8], i: usize) -> [u8; 8]
@@ -79,21 +78,21 @@ fn read_all(first: Replay, records: &[u8], gaps: &mut [u16]) -> Replayed
     while i < records.len() / 8 {
         let bytes = record_at(records, i);
         match skim(t, last, sure, bytes) {
-            Skimmed::To(number, gap, waited, now) => {
+            Some(number, gap, waited, now) => {
                 t.elapsed = now.elapsed;
                 t.delay_elapsed = waited;
                 t.loop_count = now.loop_count;
                 t.ping_pong_reverse = now.ping_pong_reverse;
-                last = Last::Number(number);
+                last = Some(number);
                 missing = capped_add(missing, gap as u64);
                 folds = capped_add(folds, now.folds as u64);
                 gaps[i] = gap;
                 i += 1;
             }
-            Skimmed::Unsure => {
+            None => {
                 let reached = so_far(t, last, missing, folds);
                 match hear(reached, bytes) {
-                    Heard::Goes(gap, next) => {
+                    Ok(gap, next) => {
                         t = next.tween;
                         last = next.last;
                         missing = next.missing;
@@ -102,12 +101,12 @@ fn read_all(first: Replay, records: &[u8], gaps: &mut [u16]) -> Replayed
                         gaps[i] = gap;
                         i += 1;
                     }
-                    Heard::Stops(refusal) => return stopped(reached, i, refusal),
+                    Err(refusal) => return stopped(reached, i, refusal),
                 }
             }
         }
     }
-    answer(so_far(t, last, missing, folds), i, Outcome::Finished)
+    answer(so_far(t, last, missing, folds), i, Ok(()))
 }
 
 // Goes on with the records that follow. What is missing before each goes into the front of gaps.
@@ -133,7 +132,7 @@ pub fn replay(t: Tween, log: &[u8], gaps: &mut [u16]) -> Replayed
 {
     let reached = Replay {
         tween: t,
-        last: Last::Unread,
+        last: None,
         missing: 0,
         folds: 0,
     };

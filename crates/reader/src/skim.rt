@@ -3,7 +3,7 @@ ghost use Rattle.std.specs.Prelude.{◌≡◌, true};
 ghost use Rattle.tween.specs.Limits.{within_of};
 ghost use Rattle.reader.specs.Inner.{SkimsStep, Skims};
 
-use crate::gaps::{Last, gap_before};
+use crate::gaps::gap_before;
 use crate::record::{event_in, is_wrong, number_in};
 use event_log::Event;
 use folds::Folding;
@@ -18,34 +18,34 @@ pub enum Skimmed {
     Unsure,
 }
 
-fn skim_step(t: Tween, number: u16, gap: u16, event: Event) -> Skimmed
+fn skim_step(t: Tween, number: u16, gap: u16, event: Event) -> Option<Skimmed>
     requires { within_of t ≡ true }
     ensures { SkimsStep t number gap event result }
 {
     let Event::Step(step) = event else {
-        return Skimmed::Unsure;
+        return None;
     };
-    let Glided::To { waited, folding } = glide(t, step) else {
-        return Skimmed::Unsure;
+    let Some { waited, folding } = glide(t, step) else {
+        return None;
     };
-    Skimmed::To(number, gap, waited, folding)
+    Some(number, gap, waited, folding)
 }
 
 // sure: the tween is known to be within its limits.
-pub fn skim(t: Tween, last: Last, sure: bool, bytes: [u8; 8]) -> Skimmed
+pub fn skim(t: Tween, last: Option<u16>, sure: bool, bytes: [u8; 8]) -> Option<Skimmed>
     requires { sure ≡ true → within_of t ≡ true }
     ensures { Skims t last bytes result }
 {
     if !sure {
-        return Skimmed::Unsure;
+        return None;
     }
     if is_wrong(bytes) {
-        return Skimmed::Unsure;
+        return None;
     }
     let number = number_in(bytes);
     let gap = gap_before(last, number);
     if gap == 65535 {
-        return Skimmed::Unsure;
+        return None;
     }
     skim_step(t, number, gap, event_in(bytes))
 }

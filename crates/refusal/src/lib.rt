@@ -1,8 +1,12 @@
 // Why a call is refused.
 #![tactic(auto)]
 
+mod rejected;
+
 ghost use Rattle.std.specs.Prelude.{◌≡◌};
 ghost use Rattle.refusal.specs.Number.{number_of};
+
+pub use rejected::Rejected;
 
 #[derive(Clone, Copy)]
 pub enum Refusal {

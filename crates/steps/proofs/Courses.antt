@@ -1,4 +1,5 @@
 -- How a run stands after its first i steps, and how it goes on and ends from there. Assumes nothing.
+use Rattle.std.specs.Prelude.{Err, Ok, Result, ⊤}
 use Prim.Native.Nat.{ℕ, suc, ◌+◌, ◌<◌, ◌≤◌}
 use mathlib.Core.Path.{◌≡◌, refl, ap, ◌∙◌}
 use mathlib.Core.Bool.{Bool, true, false, not, cond}
@@ -17,9 +18,6 @@ use Rattle.refusal.specs.declared.Refusal.{Refusal}
 use Rattle.refusal.specs.declared.Refusal.TheVariants.{RecordBreaksLimit, OutputTooShort}
 use Rattle.tween.specs.declared.record.Tween.{Tween}
 use Rattle.tween.specs.Limits.{within_of}
-use Rattle.steps.specs.declared.take.Taken.TheVariants.{Took, Stops}
-use Rattle.steps.specs.declared.run.Outcome.{Outcome}
-use Rattle.steps.specs.declared.run.Outcome.TheVariants.{Finished, Refused}
 use Rattle.steps.specs.Inner.{Reached}
 use Rattle.steps.proofs.Fronts.{more}
 use Rattle.steps.specs.Course.{step_of, ended, stopped, course_of, run_of, answer_of, over}
@@ -45,7 +43,7 @@ module _ (steps values₀ : List Float) (folds₀ : List ℕ) (t₀ : Tween) whe
       }
 
   module _ (room : length steps ≤ length values₀) (place : length steps ≤ length folds₀) (values : List Float) (folds : List ℕ) (t : Tween) (n i : ℕ) (s : Reached steps values₀ folds₀ t₀ values folds t n i) where
-    pub goes_on : (u : Tween) (f : Found) (k : ℕ) → i < length steps → step_of t (get_or steps i nan) ≡ Took u f k → within_of u ≡ true
+    pub goes_on : (u : Tween) (f : Found) (k : ℕ) → i < length steps → step_of t (get_or steps i nan) ≡ TOOK u f k → within_of u ≡ true
         → Reached steps values₀ folds₀ t₀ (set values i f.value) (set folds i k) u (n + bool_byte (not f.settled)) (i + 1)
     unfolding course_of
     goes_on u f k h e w =
@@ -63,19 +61,19 @@ module _ (steps values₀ : List Float) (folds₀ : List ℕ) (t₀ : Tween) whe
         }
 
     -- the run ends here
-    ends : (o : Outcome) → course_of (drop i steps) t ≡ ended t o
+    ends : (o : Result ⊤ Refusal) → course_of (drop i steps) t ≡ ended t o
         → (record { tween = t; done = i; unsettled = n; outcome = o } ≡ answer_of (course_of steps t₀)) × (values ≡ over (course_of steps t₀).values values₀) × (folds ≡ over (course_of steps t₀).folds folds₀)
     ends o e = rw (s.course-is, e, append-nil s.front, append-nil s.counts, add-zero n, s.values-are.0, s.folds-are.0) (refl, s.values-are.1, s.folds-are.1)
 
-    pub stops : (r : Refusal) → i < length steps → step_of t (get_or steps i nan) ≡ Stops r
-        → (record { tween = t; done = i; unsettled = n; outcome = Refused r } ≡ answer_of (course_of steps t₀)) × (values ≡ over (course_of steps t₀).values values₀) × (folds ≡ over (course_of steps t₀).folds folds₀)
+    pub stops : (r : Refusal) → i < length steps → step_of t (get_or steps i nan) ≡ Err r
+        → (record { tween = t; done = i; unsettled = n; outcome = Err r } ≡ answer_of (course_of steps t₀)) × (values ≡ over (course_of steps t₀).values values₀) × (folds ≡ over (course_of steps t₀).folds folds₀)
     unfolding course_of
-    stops r h e = ends (Refused r) (rw (drop-cons steps i nan h, e))
+    stops r h e = ends (Err r) (rw (drop-cons steps i nan h, e))
 
     pub finishes : i ≡ length steps
-        → (record { tween = t; done = i; unsettled = n; outcome = Finished } ≡ answer_of (course_of steps t₀)) × (values ≡ over (course_of steps t₀).values values₀) × (folds ≡ over (course_of steps t₀).folds folds₀)
+        → (record { tween = t; done = i; unsettled = n; outcome = Ok tt } ≡ answer_of (course_of steps t₀)) × (values ≡ over (course_of steps t₀).values values₀) × (folds ≡ over (course_of steps t₀).folds folds₀)
     unfolding course_of
-    finishes e = ends Finished (ap (λ (n : ℕ). course_of (drop n steps) t) e ∙ (rw (drop-length steps)))
+    finishes e = ends Ok tt (ap (λ (n : ℕ). course_of (drop n steps) t) e ∙ (rw (drop-length steps)))
 
 -- what `run_steps` answers, by its tests
 module _ (t : Tween) (steps values : List Float) (folds : List ℕ) where

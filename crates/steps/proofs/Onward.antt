@@ -11,7 +11,6 @@ use Rattle.math.proofs.Tallies.{byte-below}
 use Rattle.bezier.specs.declared.types.Found.{Found}
 use Rattle.tween.specs.declared.record.Tween.{Tween}
 use Rattle.tween.specs.Limits.{within_of}
-use Rattle.steps.specs.declared.take.Taken.TheVariants.{Took}
 use Rattle.steps.specs.Course.{step_of}
 use Rattle.steps.specs.Inner.{Reached}
 use Rattle.steps.proofs.Courses.{goes_on}
@@ -31,7 +30,7 @@ module _ (steps values₀ : List Float) (folds₀ : List ℕ) (t₀ : Tween) (n�
   starts w h k = record { reaches = λ vs fs s r. r; values-long = refl; folds-long = refl; within = w; later = omega arith; few = h; few-unsettled = omega (arith, k) }
 
   module _ (room : length steps ≤ length values₀) (place : length steps ≤ length folds₀) (values : List Float) (folds : List ℕ) (t : Tween) (n i : ℕ) (o : Onward steps values₀ folds₀ t₀ n₀ i₀ values folds t n i) where
-    pub one-more-step : (u : Tween) (f : Found) (k : ℕ) → i < length steps → step_of t (get_or steps i nan) ≡ Took u f k → within_of u ≡ true
+    pub one-more-step : (u : Tween) (f : Found) (k : ℕ) → i < length steps → step_of t (get_or steps i nan) ≡ TOOK u f k → within_of u ≡ true
         → Onward steps values₀ folds₀ t₀ n₀ i₀ (set values i f.value) (set folds i k) u (n + bool_byte (not f.settled)) (i + 1)
     one-more-step u f k h e w =
         record {

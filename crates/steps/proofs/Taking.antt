@@ -1,4 +1,5 @@
 -- What a step of a run says of the tween behind it. Assumes nothing.
+use Rattle.std.specs.Prelude.{Err, Ok, Result}
 use Prim.Native.Nat.{ℕ, ◌≤◌, ◌<◌}
 use mathlib.Core.Path.{◌≡◌, refl, sym, ap, ◌∙◌, subst, subst⁻¹}
 use mathlib.Core.Bool.{Bool, true, false, ◌&&◌, and_comm}
@@ -8,13 +9,9 @@ use lib.Ieee.{Float}
 use lib.Ieee.Bits.{is_true}
 use Rattle.bezier.specs.declared.types.Found.{Found}
 use Rattle.refusal.specs.declared.Refusal.TheVariants.{RecordBreaksLimit}
-use Rattle.easing.specs.declared.answers.Eased.{Eased}
-use Rattle.easing.specs.declared.answers.Eased.TheVariants as eased
 use Rattle.tween.specs.declared.record.Tween.{Tween}
 use Rattle.tween.specs.declared.answers.Updated.{Updated}
-use Rattle.tween.specs.declared.answers.Updated.TheVariants.{Ran, Refused}
 use Rattle.folds.specs.declared.Folding.{Folding}
-use Rattle.tween.specs.declared.update.Glided.TheVariants.{To}
 use Rattle.tween.specs.Limits.{settings_within, clock_within, within_of}
 use Rattle.tween.specs.Calls.{value_of}
 use Rattle.tween.specs.Update.{update_of}
@@ -22,55 +19,57 @@ use Rattle.tween.specs.Inner.{Glides, placed}
 use Rattle.tween.proofs.Glides.{goes_to}
 use Rattle.tween.proofs.KeptByUpdate.{update-within}
 use Rattle.steps.specs.declared.take.Taken.{Taken}
-use Rattle.steps.specs.declared.take.Taken.TheVariants.{Took, Stops}
 use Rattle.steps.specs.Course.{valued, taken, step_of}
+use Rattle.refusal.specs.declared.Refusal.{Refusal}
+use Rattle.refusal.specs.declared.rejected.Rejected.{Rejected}
+use Rattle.refusal.specs.Refusing.{rejected}
 
-refuses : (u : Tween) → within_of u ≡ false → value_of u ≡ eased.Refused RecordBreaksLimit
+refuses : (u : Tween) → within_of u ≡ false → value_of u ≡ Err RecordBreaksLimit
 unfolding value_of
 refuses u h = rw h
 
 -- a is the answer of `step_on`
-module _ (t u : Tween) (x : Float) (k : ℕ) (r : Bool) (a : Updated) (answers : a ≡ update_of t x) (ran : a ≡ Ran u k r) where
+module _ (t u : Tween) (x : Float) (k : ℕ) (r : Bool) (a : Result Updated (Rejected Tween)) (answers : a ≡ update_of t x) (ran : a ≡ RAN u k r) where
   pub stays : u.loop_count ≤ 16777216 → within_of u ≡ true
   stays h = is_true (within_of u) (update-within t u x k r (sym answers ∙ ran) (le→leb u.loop_count 16777216 h))
 
   -- a loop_count that has just passed its limit
-  no_value : 16777216 < u.loop_count → value_of u ≡ eased.Refused RecordBreaksLimit
+  no_value : 16777216 < u.loop_count → value_of u ≡ Err RecordBreaksLimit
   unfolding within_of
   no_value h = refuses u (rw (lt-leb u.loop_count 16777216 h) (and_comm (settings_within u && clock_within u) false))
 
-  pub passed-limit : 16777216 < u.loop_count → Stops RecordBreaksLimit ≡ step_of t x
+  pub passed-limit : 16777216 < u.loop_count → Err RecordBreaksLimit ≡ step_of t x
   unfolding step_of
   passed-limit h = sym (ap taken (sym answers ∙ ran) ∙ (rw (no_value h)))
 
 -- a step that is taken leaves a tween within its limits
-abbrev Fine : Taken → Type 0
-Fine (Took u f k) = within_of u ≡ true
-Fine (Stops r) = Unit {0}
+abbrev Fine : Result Taken Refusal → Type 0
+Fine (TOOK u f k) = within_of u ≡ true
+Fine (Err r) = Unit {0}
 
 fine : (u : Tween) (k : ℕ) → Fine (valued u k (value_of u))
 fine u k = go (within_of u) refl
   where
-    any : (a : Eased) → within_of u ≡ true → Fine (valued u k a)
-    any (eased.Value f) h = h
-    any (eased.Refused r) h = tt
+    any : (a : Result Found Refusal) → within_of u ≡ true → Fine (valued u k a)
+    any (Ok f) h = h
+    any (Err r) h = tt
 
     go : (b : Bool) → within_of u ≡ b → Fine (valued u k (value_of u))
     go true h = any (value_of u) h
-    go false h = subst⁻¹ (λ (a : Eased). Fine (valued u k a)) (refuses u h) tt
+    go false h = subst⁻¹ (λ (a : Result Found Refusal). Fine (valued u k a)) (refuses u h) tt
 
 step-fine : (t : Tween) (x : Float) → Fine (step_of t x)
 unfolding step_of
 step-fine t x = go (update_of t x)
   where
-    go : (a : Updated) → Fine (taken a)
-    go (Ran u k r) = fine u k
-    go (Refused u r) = tt
+    go : (a : Result Updated (Rejected Tween)) → Fine (taken a)
+    go (RAN u k r) = fine u k
+    go (rejected u r) = tt
 
-pub took-within : (t u : Tween) (x : Float) (f : Found) (k : ℕ) → step_of t x ≡ Took u f k → within_of u ≡ true
+pub took-within : (t u : Tween) (x : Float) (f : Found) (k : ℕ) → step_of t x ≡ TOOK u f k → within_of u ≡ true
 took-within t u x f k e = subst Fine e (step-fine t x)
 
-module _ (t : Tween) (x w : Float) (p : Folding) (h : Glides t x (To w p)) where
-  pub glide-took : (f : Found) → value_of (placed t w p) ≡ eased.Value f → step_of t x ≡ Took (placed t w p) f p.folds
+module _ (t : Tween) (x w : Float) (p : Folding) (h : Glides t x (SOMEGLIDED w p)) where
+  pub glide-took : (f : Found) → value_of (placed t w p) ≡ Ok f → step_of t x ≡ TOOK (placed t w p) f p.folds
   unfolding step_of
   glide-took f e = rw (goes_to t x w p h, e) refl

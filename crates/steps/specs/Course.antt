@@ -1,41 +1,37 @@
 -- A run of steps, by `update` and `value` and nothing else.
-use Rattle.std.specs.Prelude.{ℕ, suc, not, ◌&&◌, cond, List, [], ◌∷◌, ◌++◌, leb, length, drop, Float}
+use Rattle.std.specs.Prelude.{ℕ, suc, not, ◌&&◌, cond, List, [], ◌∷◌, ◌++◌, leb, length, drop, Float, Err, Ok, Result, ⊤}
 use Rattle.bezier.specs.declared.types.Found.{Found}
 use Rattle.refusal.specs.declared.Refusal.{Refusal}
 use Rattle.refusal.specs.declared.Refusal.TheVariants.{RecordBreaksLimit, OutputTooShort}
 use Rattle.refusal.specs.Number.{number_of}
 use Rattle.refusal.specs.Refusing.{unless}
-use Rattle.easing.specs.declared.answers.Eased.{Eased}
-use Rattle.easing.specs.declared.answers.Eased.TheVariants as eased
 use Rattle.tween.specs.declared.record.Tween.{Tween}
 use Rattle.tween.specs.declared.answers.Updated.{Updated}
-use Rattle.tween.specs.declared.answers.Updated.TheVariants as updated
 use Rattle.tween.specs.Limits.{within_of}
 use Rattle.tween.specs.Calls.{value_of}
 use Rattle.tween.specs.Update.{update_of}
 use Rattle.steps.specs.declared.take.Taken.{Taken}
-use Rattle.steps.specs.declared.take.Taken.TheVariants.{Took, Stops}
-use Rattle.steps.specs.declared.run.Outcome.{Outcome}
-use Rattle.steps.specs.declared.run.Outcome.TheVariants.{Finished, Refused}
 use Rattle.steps.specs.declared.run.Run.{Run}
+use Rattle.refusal.specs.declared.rejected.Rejected.{Rejected}
+use Rattle.refusal.specs.Refusing.{rejected}
 
 -- the value behind an update; where it is refused, so is the step
-abbrev pub valued : Tween → ℕ → Eased → Taken
-valued u k (eased.Value f) = Took u f k
-valued u k (eased.Refused r) = Stops r
+abbrev pub valued : Tween → ℕ → Result Found Refusal → Result Taken Refusal
+valued u k (Ok f) = TOOK u f k
+valued u k (Err r) = Err r
 
-abbrev pub taken : Updated → Taken
-taken (updated.Ran u k running) = valued u k (value_of u)
-taken (updated.Refused u r) = Stops r
+abbrev pub taken : Result Updated (Rejected Tween) → Result Taken Refusal
+taken (RAN u k running) = valued u k (value_of u)
+taken (rejected u r) = Err r
 
 -- one step: an update, and the value behind it
-unfoldable pub step_of : Tween → Float → Taken
+unfoldable pub step_of : Tween → Float → Result Taken Refusal
 step_of t x = taken (update_of t x)
 
 -- how a run ended, as a number: a refusal's, 0 for none
-abbrev pub outcome_number : Outcome → ℕ
-outcome_number Finished = 0
-outcome_number (Refused r) = number_of r
+abbrev pub outcome_number : Result ⊤ Refusal → ℕ
+outcome_number Ok tt = 0
+outcome_number (Err r) = number_of r
 
 -- what a run comes to: the tween, the value and the folds of each step that was taken, how many of the values are not settled, and how it ended. Request 1: "Values don't change": a value is what was found, without the search behind it
 pub record Course : Type 0 where
@@ -43,23 +39,23 @@ pub record Course : Type 0 where
   pub values : List Float
   pub folds : List ℕ
   pub unsettled : ℕ
-  pub outcome : Outcome
+  pub outcome : Result ⊤ Refusal
 
 -- nothing taken
-abbrev pub ended : Tween → Outcome → Course
+abbrev pub ended : Tween → Result ⊤ Refusal → Course
 ended t o = record { tween = t; values = []; folds = []; unsettled = 0; outcome = o }
 
 -- nothing taken, and refused
 abbrev pub stopped : Tween → Refusal → Course
-stopped t r = ended t (Refused r)
+stopped t r = ended t (Err r)
 
 -- Request 1, for a run as for a batch: "how many of its samples weren't" settled. n is how many behind this one are not
 abbrev pub counting : Found → ℕ → ℕ
 counting f n = cond (not f.settled) (suc n) n
 
 -- a step that was taken, and the rest; or the first refusal, with the tween as it stood
-abbrev pub followed : Taken → Tween → (Tween → Course) → Course
-followed (Took u f k) t rest =
+abbrev pub followed : Result Taken Refusal → Tween → (Tween → Course) → Course
+followed (TOOK u f k) t rest =
     let c = rest u in
     record {
       tween = c.tween;
@@ -68,10 +64,10 @@ followed (Took u f k) t rest =
       unsettled = counting f c.unsettled;
       outcome = c.outcome;
     }
-followed (Stops r) t rest = stopped t r
+followed (Err r) t rest = stopped t r
 
 unfoldable pub course_of : List Float → Tween → Course
-course_of [] t = ended t Finished
+course_of [] t = ended t Ok tt
 course_of (x ∷ steps) t = followed (step_of t x) t (course_of steps)
 
 -- 4; 12 where a lent list is shorter than the steps

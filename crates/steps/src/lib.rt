@@ -5,4 +5,4 @@ mod gliding;
 mod run;
 mod take;
 
-pub use run::{Outcome, Run, run_steps};
+pub use run::{Run, run_steps};

@@ -21,10 +21,10 @@ pub struct Run {
     pub tween: Tween,
     pub done: usize,
     pub unsettled: usize,
-    pub outcome: Outcome,
+    pub outcome: Result<(), Refusal>,
 }
 
-fn answer(tween: Tween, done: usize, unsettled: usize, outcome: Outcome) -> Run
+fn answer(tween: Tween, done: usize, unsettled: usize, outcome: Result<(), Refusal>) -> Run
     ensures { result ≡ record { tween = tween; done = done; unsettled = unsettled; outcome = outcome } }
 {
     Run {
@@ -51,18 +51,18 @@ fn run_on(first: Tween, steps: &[f32], values: &mut [f32], folds: &mut [u32]) ->
         unsettled = stretch.unsettled;
         if i < steps.len() {
             match take(t, steps[i]) {
-                Taken::Took(tween, found, made) => {
+                Ok(tween, found, made) => {
                     values[i] = found.value;
                     folds[i] = made;
                     unsettled += !found.settled as usize;
                     t = tween;
                     i += 1;
                 }
-                Taken::Stops(refusal) => return answer(t, i, unsettled, Outcome::Refused(refusal)),
+                Err(refusal) => return answer(t, i, unsettled, Err(refusal)),
             }
         }
     }
-    answer(t, i, unsettled, Outcome::Finished)
+    answer(t, i, unsettled, Ok(()))
 }
 
 // The value after each step and the folds of each, into the fronts of values and folds. Refused: 4; 12
@@ -73,13 +73,13 @@ pub fn run_steps(t: Tween, steps: &[f32], values: &mut [f32], folds: &mut [u32])
     ensures fold { folds.new ≡ over (run_of t steps.now values.old folds.old).folds folds.old }
 {
     if !within(t) {
-        return answer(t, 0, 0, Outcome::Refused(Refusal::RecordBreaksLimit));
+        return answer(t, 0, 0, Err(Refusal::RecordBreaksLimit));
     }
     if values.len() < steps.len() {
-        return answer(t, 0, 0, Outcome::Refused(Refusal::OutputTooShort));
+        return answer(t, 0, 0, Err(Refusal::OutputTooShort));
     }
     if folds.len() < steps.len() {
-        return answer(t, 0, 0, Outcome::Refused(Refusal::OutputTooShort));
+        return answer(t, 0, 0, Err(Refusal::OutputTooShort));
     }
     run_on(t, steps, values, folds)
 }

@@ -15,23 +15,23 @@ pub enum Taken {
 }
 
 // An update, and the value behind it.
-pub fn take(t: Tween, step: f32) -> Taken
+pub fn take(t: Tween, step: f32) -> Result<Taken, Refusal>
     requires { within_of t ≡ true }
     ensures { result ≡ step_of t step }
 {
     match step_on(t, step) {
-        Updated::Ran {
+        Ok {
             tween,
             folds,
             running: _,
         } => {
             // An update keeps every other limit.
             if tween.loop_count > 16777216 {
-                return Taken::Stops(Refusal::RecordBreaksLimit);
+                return Err(Refusal::RecordBreaksLimit);
             }
             let easing = tween.easing;
-            Taken::Took(tween, value_by(easing, tween), folds)
+            Ok(tween, value_by(easing, tween), folds)
         }
-        Updated::Refused { tween: _, refusal } => Taken::Stops(refusal),
+        Err { tween: _, refusal } => Err(refusal),
     }
 }

@@ -1,4 +1,5 @@
 -- The words that a push leaves are read as the track that it makes. Assumes nothing.
+use Rattle.std.specs.Prelude.{None, Some}
 use Prim.Native.Nat.{ℕ, suc, ◌+◌, ◌-◌, ◌*◌, ◌<◌, ◌≤◌}
 use native.Mathlib.Omega.{arith}
 use mathlib.Core.Path.{◌≡◌, refl, sym, ap, ◌∙◌}
@@ -19,7 +20,6 @@ use Rattle.frames.specs.Pushing.{pushed_of, put_of}
 use Rattle.frames.specs.Sampling.{leading}
 use Rattle.keyframe.specs.Limits.{frames_in}
 use Rattle.keyframe.specs.Pushing.{stored_of, with_frames}
-use Rattle.words.specs.declared.tracks.FrameRead.TheVariants as frame
 use Rattle.words.specs.declared.tracks.LaxKeyframe.{LaxKeyframe}
 use Rattle.words.specs.Kinds.{is_kind}
 use Rattle.words.specs.Lent.{word_at, float_at, frame_at, track_in}
@@ -169,11 +169,11 @@ module _ (words row w : List ℕ) (few : word_at words 512 ≤ 64) (k : Keyframe
       rw (places-taken, long-is, took.head.count, took.head.complete, kept 513 (omega arith) (omega arith), kept 514 (omega arith) (omega arith), kept 515 (omega arith) (omega arith), kept 516 (omega arith) (omega arith)) refl
 
 -- the row that is stored is the frame that is stored
-pub stored_is : (row : List ℕ) (k : Keyframe) → frame_read (frame_at row 0) ≡ frame.Known k → frame_in (stored_row row) 0 ≡ stored_of k
+pub stored_is : (row : List ℕ) (k : Keyframe) → frame_read (frame_at row 0) ≡ Some k → frame_in (stored_row row) 0 ≡ stored_of k
 unfolding frame_read frame_in frame_from frame_at
 stored_is row k known = go (is_kind (word_at row 2)) known
   where
-    go : (b : Bool) → cond b (frame.Known (frame_from (frame_at row 0))) frame.Unknown ≡ frame.Known k → frame_in (stored_row row) 0 ≡ stored_of k
+    go : (b : Bool) → cond b (Some (frame_from (frame_at row 0))) None ≡ Some k → frame_in (stored_row row) 0 ≡ stored_of k
     go true e =
         let s : frame_from (frame_at row 0) ≡ k = cc in
         rw (← s, of-picked f32 (eq (float_at row 0) zero_f) 0 (word_at row 0) _ _ refl refl) refl

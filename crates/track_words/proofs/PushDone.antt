@@ -1,4 +1,5 @@
 -- Where a push is done, the words are read as the track that it hands back. Assumes nothing.
+use Rattle.std.specs.Prelude.{Err, Ok}
 use Prim.Native.Nat.{ℕ}
 use native.Mathlib.Omega.{arith}
 use mathlib.Core.Path.{◌≡◌, refl, sym, ◌∙◌}
@@ -15,7 +16,6 @@ use Rattle.frames.specs.declared.frame.Keyframe.{Keyframe}
 use Rattle.frames.specs.declared.frame.Put.{Put}
 use Rattle.frames.specs.Pushing.{pushed_of, put_of}
 use Rattle.keyframe.specs.declared.types.Changed.{Changed}
-use Rattle.keyframe.specs.declared.types.Outcome.TheVariants.{Done, Refused}
 use Rattle.keyframe.specs.declared.types.Track.{Track}
 use Rattle.keyframe.specs.Limits.{frames_in, within_of}
 use Rattle.keyframe.specs.Pushing.{placed_of, push_of, stored_of, takes_of, with_frames}
@@ -26,12 +26,12 @@ use Rattle.track_words.proofs.Checked.{passed-few, passed-frames}
 use Rattle.track_words.proofs.PushBack.{push-back, stored_is, time-is}
 use Rattle.track_words.proofs.Rows.{room-is}
 
-never : {A : Type 0} (r : Refusal) → Refused r ≡ Done → A
+never : {A : Type 0} (r : Refusal) → Err r ≡ Ok tt → A
 never r h = let z : ◌≡◌ {A = ℕ} 0 1 = cc in absurd (omega (arith, z))
 
 -- what is done is done with frames that found their places
 abbrev DoneWith : Track → Put → Changed → Type 0
-DoneWith t p r = r.outcome ≡ Done → (p.full ≡ false) × (r.track ≡ with_frames t p.frames p.count)
+DoneWith t p r = r.outcome ≡ Ok tt → (p.full ≡ false) × (r.track ≡ with_frames t p.frames p.count)
 
 module _ (t : Track) (k : Keyframe) where
   abbrev put : Put
@@ -56,7 +56,7 @@ module _ (t : Track) (k : Keyframe) where
       let b = leb (length (pushed_of (stored_of k) (frames_in t))) 64 in
       by-test (λ (p : Put). p.full ≡ false → b ≡ true) b _ _ (λ e _. e) (λ _ h. absurd (false≢true (sym h)))
 
-pub done-room : (words row : List ℕ) (k : Keyframe) → Pushable words row k → (push_of (track_of words) k).outcome ≡ Done → has_room words (stored_row row) ≡ true
+pub done-room : (words row : List ℕ) (k : Keyframe) → Pushable words row k → (push_of (track_of words) k).outcome ≡ Ok tt → has_room words (stored_row row) ≡ true
 done-room words row k from done =
     let few = passed-few words from.fine in
     let at = time-is words (stored_row row) from.long few (stored_of k) (stored_is row k from.known) in

@@ -1,4 +1,5 @@
 -- The words that a push leaves pass the check again. Assumes nothing.
+use Rattle.std.specs.Prelude.{None, Some}
 use Prim.Native.Nat.{ℕ, zero, suc, ◌<◌, ◌≤◌}
 use native.Mathlib.Nat.{eq-or-lt_of_le}
 use native.Mathlib.Omega.{arith}
@@ -11,7 +12,6 @@ use Rattle.math.proofs.Choice.{and_both}
 use Rattle.frames.specs.declared.frame.Keyframe.{Keyframe}
 use Rattle.keyframe.specs.Limits.{within_of}
 use Rattle.keyframe.proofs.Kept.{push-within}
-use Rattle.words.specs.declared.tracks.FrameRead.TheVariants as frame
 use Rattle.words.specs.declared.tracks.LaxKeyframe.{LaxKeyframe}
 use Rattle.words.specs.Kinds.{is_kind}
 use Rattle.words.specs.Lent.{word_at, frame_at, track_in}
@@ -61,11 +61,11 @@ module _ (words : List ℕ) where
   known_is few = rw (all-places (word_at words 512) few, take-firsts (words_in words) (word_at words 512) 64 few) refl
 
 -- the row's kind is known
-row-known : (row : List ℕ) (k : Keyframe) → frame_read (frame_at row 0) ≡ frame.Known k → KnownAt (stored_row row) 0
+row-known : (row : List ℕ) (k : Keyframe) → frame_read (frame_at row 0) ≡ Some k → KnownAt (stored_row row) 0
 unfolding frame_read frame_at
 row-known row k known = go (is_kind (word_at row 2)) known
   where
-    go : (b : Bool) → cond b (frame.Known (frame_from (frame_at row 0))) frame.Unknown ≡ frame.Known k → b ≡ true
+    go : (b : Bool) → cond b (Some (frame_from (frame_at row 0))) None ≡ Some k → b ≡ true
     go true e = refl
     go false e = let z : ◌≡◌ {A = ℕ} 0 1 = cc in absurd (omega (arith, z))
 

@@ -1,4 +1,5 @@
 -- The cases of a push into words that pass the check. Assumes nothing.
+use Rattle.std.specs.Prelude.{Err, Ok}
 use Prim.Native.Nat.{ℕ}
 use mathlib.Core.Path.{◌≡◌, refl, ◌∙◌}
 use mathlib.Core.Bool.{Bool, true, false, cond}
@@ -10,7 +11,6 @@ use Rattle.easing.specs.Kinds.{supplied_of}
 use Rattle.easing.specs.Params as params
 use Rattle.frames.specs.declared.frame.Keyframe.{Keyframe}
 use Rattle.frames.specs.Pushing.{pushed_of, put_of}
-use Rattle.keyframe.specs.declared.types.Outcome.TheVariants.{Done, Refused}
 use Rattle.keyframe.specs.declared.types.Track.{Track}
 use Rattle.keyframe.specs.Limits.{frames_in}
 use Rattle.keyframe.specs.Pushing.{placed_of, push_of, stored_of, takes_of}
@@ -22,18 +22,18 @@ use Rattle.track_words.proofs.Checked.{passed-few, passed-frames, passed-within}
 use Rattle.track_words.proofs.Rows.{room-is}
 
 -- whether a frame finds a place goes by how many frames there are then
-placed_by : (t : Track) (k : Keyframe) → (placed_of t (put_of t.frames t.count k)).outcome ≡ cond (leb (length (pushed_of k (frames_in t))) 64) Done (Refused TrackFull)
+placed_by : (t : Track) (k : Keyframe) → (placed_of t (put_of t.frames t.count k)).outcome ≡ cond (leb (length (pushed_of k (frames_in t))) 64) Ok tt (Err TrackFull)
 unfolding placed_of put_of
 placed_by t k = go (leb (length (pushed_of k (frames_in t))) 64) (pushed_of k (frames_in t))
   where
     go : (b : Bool) (l : List Keyframe)
-        → (placed_of t (cond b (record { frames = l ++ drop (length l) t.frames; count = length l; full = false }) (record { frames = t.frames; count = t.count; full = true }))).outcome ≡ cond b Done (Refused TrackFull)
+        → (placed_of t (cond b (record { frames = l ++ drop (length l) t.frames; count = length l; full = false }) (record { frames = t.frames; count = t.count; full = true }))).outcome ≡ cond b Ok tt (Err TrackFull)
     go true l = refl
     go false l = refl
 
 module _ (words row : List ℕ) (fine : check_of words ≡ 0) (k : Keyframe) (supplied : supplied_of k.easing ≡ true) (fits : params.within_of (params.params_of k.easing) ≡ true)
     (taken : takes_of (track_of words) (stored_of k) ≡ true) (at : (stored_of k).time ≡ float_at row 0) where
-  pub push-outcome : (push_of (track_of words) k).outcome ≡ cond (has_room words row) Done (Refused TrackFull)
+  pub push-outcome : (push_of (track_of words) k).outcome ≡ cond (has_room words row) Ok tt (Err TrackFull)
   unfolding push_of
   push-outcome =
       rw (passed-within words fine, supplied, fits, taken)

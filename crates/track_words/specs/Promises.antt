@@ -1,11 +1,9 @@
 -- What holds of the words that a push leaves: they are read as document 01's push. Each sentence is a type; its proof has its name in small letters.
-use Rattle.std.specs.Prelude.{ℕ, ◌≡◌, true, List, length}
+use Rattle.std.specs.Prelude.{ℕ, ◌≡◌, true, List, length, Ok, Some}
 use Rattle.frames.specs.declared.frame.Keyframe.{Keyframe}
 use Rattle.frames.specs.Pushing.{pushed_of, put_of}
-use Rattle.keyframe.specs.declared.types.Outcome.TheVariants.{Done}
 use Rattle.keyframe.specs.Limits.{frames_in}
 use Rattle.keyframe.specs.Pushing.{push_of, stored_of, with_frames}
-use Rattle.words.specs.declared.tracks.FrameRead.TheVariants.{Known}
 use Rattle.words.specs.Lent.{frame_at}
 use Rattle.words.specs.Tracks.{frame_read}
 use Rattle.track_words.specs.Checking.{check_of}
@@ -16,7 +14,7 @@ use Rattle.track_words.specs.Reading.{track_of}
 pub record Pushable (words row : List ℕ) (k : Keyframe) : Type 0 where
   pub long : length words ≡ 518
   pub fine : check_of words ≡ 0
-  pub known : frame_read (frame_at row 0) ≡ Known k
+  pub known : frame_read (frame_at row 0) ≡ Some k
 
 -- where there is room, the frames are those that were, with k among them
 abbrev pub PushFrames : Type 0
@@ -35,11 +33,11 @@ PushBack =
 -- where the track takes k, the words are read as the track that it becomes
 abbrev pub PushDone : Type 0
 PushDone =
-    (words row : List ℕ) (k : Keyframe) → Pushable words row k → (push_of (track_of words) k).outcome ≡ Done
+    (words row : List ℕ) (k : Keyframe) → Pushable words row k → (push_of (track_of words) k).outcome ≡ Ok tt
     → track_of (push_into words (stored_row row)) ≡ (push_of (track_of words) k).track
 
 -- and they pass the check again
 abbrev pub PushPasses : Type 0
 PushPasses =
-    (words row : List ℕ) (k : Keyframe) → Pushable words row k → (push_of (track_of words) k).outcome ≡ Done
+    (words row : List ℕ) (k : Keyframe) → Pushable words row k → (push_of (track_of words) k).outcome ≡ Ok tt
     → check_of (push_into words (stored_row row)) ≡ 0

@@ -63,7 +63,7 @@ pub fn is_done(w: &[u32; 518]) -> bool
 }
 
 // A step of dt seconds.
-pub fn tick(w: &[u32; 518], dt: f32) -> Ticked
+pub fn tick(w: &[u32; 518], dt: f32) -> Result<Ticked, Refusal>
     requires { check_of w.now ≡ 0 }
     ensures { let t = track_of w.now in result ≡ tick_of t.count (base_of t) t.looping (clock_in t) dt }
 {

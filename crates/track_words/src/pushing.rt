@@ -13,7 +13,6 @@ ghost use Rattle.track_words.specs.Reading.{frames_of, track_of};
 use crate::playing::{count, duration};
 use crate::reading::{float_at, looping};
 use easing::Easing;
-use keyframe::Outcome;
 
 // -0 as a time becomes +0.
 fn stored_time(word: u32) -> u32
@@ -33,7 +32,7 @@ pub fn stored_row(row: &[u32; 8]) -> [u32; 8]
 }
 
 // Whether a frame with this easing, time and value may go in, if there is room.
-pub fn push_outcome(w: &[u32; 518], easing: Easing, time: f32, value: f32) -> Outcome
+pub fn push_outcome(w: &[u32; 518], easing: Easing, time: f32, value: f32) -> Result<(), Refusal>
     requires { check_of w.now ≡ 0 }
     ensures { let t = track_of w.now in result ≡ push_outcome easing t.looping (base_of t) time value }
 {

@@ -12,7 +12,7 @@ ghost use Rattle.track_words.specs.Reading.{frame_in, frames_of};
 
 use crate::reading::{easing_at, word_at};
 use bezier::Found;
-use easing_words::{Drawn, Searched, draw, search};
+use easing_words::{draw, search};
 
 // The float at a place where no NaN's pattern stands.
 fn number_at(w: &[u32; 518], at: usize) -> f32
@@ -45,14 +45,14 @@ fn eased(w: &[u32; 518], at: usize, p: f32) -> Found
     ensures { result ≡ eased_of (easing_in (easing_from (easing_at w.now at))) p }
 {
     let kind = word_at(w, at);
-    if let Drawn::At(v) = draw(kind, p) {
+    if let Some(v) = draw(kind, p) {
         return Found::plain(v);
     }
     let a = word_at(w, at + 1);
     let b = word_at(w, at + 2);
     let c = word_at(w, at + 3);
     let d = word_at(w, at + 4);
-    if let Searched::At(found) = search(kind, a, b, c, d, p) {
+    if let Some(found) = search(kind, a, b, c, d, p) {
         return found;
     }
     words::eased(easing_at(w, at), p)

@@ -8,10 +8,9 @@ use Rattle.easing.specs.Params.{params_of, within_of as params_within}
 use Rattle.loop_mode.specs.Passes.{within_of as mode_within}
 use Rattle.tween.specs.declared.record.Tween.{Tween}
 use Rattle.tween.specs.declared.record.TweenState.TheVariants.{Idle}
-use Rattle.tween.specs.declared.answers.Updated.TheVariants.{Ran}
 use Rattle.tween.specs.Parts.{new_of}
 use Rattle.tween.specs.Limits.{settings_within, clock_within, within_of}
-use Rattle.tween.specs.Update.{wait_of, by_state, update_of}
+use Rattle.tween.specs.Update.{wait_of, by_state, update_of, updated}
 
 -- a tween with a delay of 2 s, of which w has passed
 abbrev waited : Float → Tween
@@ -40,9 +39,9 @@ abbrev long : Float
 long = f32 0x358c_cccd
 
 -- from 1 s on, two short steps come to 1 + 8 * 2^-23, and the one long step to 1 + 9 * 2^-23; none is lost
-pub cuts-differ : (update_of (waited one_f) short ≡ Ran (waited (f32 0x3f80_0004)) 0 true)
-    × (update_of (waited (f32 0x3f80_0004)) short ≡ Ran (waited (f32 0x3f80_0008)) 0 true)
+pub cuts-differ : (update_of (waited one_f) short ≡ updated (waited (f32 0x3f80_0004)) 0 true)
+    × (update_of (waited (f32 0x3f80_0004)) short ≡ updated (waited (f32 0x3f80_0008)) 0 true)
     × (short ⊕ short ≡ long)
-    × (update_of (waited one_f) long ≡ Ran (waited (f32 0x3f80_0009)) 0 true)
+    × (update_of (waited one_f) long ≡ updated (waited (f32 0x3f80_0009)) 0 true)
 unfolding of_bits add sub mul lt le eq update_of within_of settings_within clock_within mode_within fits_record_of supplied_of params_of params_within by_state wait_of
 cuts-differ = (refl, refl, refl, refl)

@@ -1,24 +1,23 @@
 -- The quick way of a step: an update with one fold, and what holds of the rest of an update holds of the update. Assumes nothing.
-use Rattle.std.proofs.Common.{◌≡◌, ℕ, suc, Bool, true, false, sym, refl, ap, ◌∙◌, le→leb}
+use Rattle.std.specs.Prelude.{None, Option}
+use Rattle.std.proofs.Common.{◌≡◌, ℕ, suc, Bool, true, false, sym, refl, ap, ◌∙◌, le→leb, Some}
 use lib.Ieee.{Float, eq}
 use lib.Ieee.Bits.{is_true}
 use Rattle.math.specs.Rounded.{zero_f}
 use Rattle.loop_mode.specs.declared.Loop.{Loop}
 use Rattle.tween.specs.declared.record.Tween.{Tween}
 use Rattle.tween.specs.declared.record.TweenState.TheVariants.{Running}
-use Rattle.tween.specs.declared.answers.Updated.TheVariants.{Ran}
 use Rattle.tween.specs.declared.update.Glided.{Glided}
-use Rattle.tween.specs.declared.update.Glided.TheVariants.{To, Unsure}
 use Rattle.folds.specs.declared.Folding.{Folding}
 use Rattle.folds.specs.Folds.{fold_once, due, folds_of}
 use Rattle.tween.specs.Limits.{within_of}
-use Rattle.tween.specs.Update.{begin_at, ran, folded, advanced, update_of}
+use Rattle.tween.specs.Update.{begin_at, ran, folded, advanced, update_of, updated}
 use Rattle.tween.specs.Inner.{Slides, Glides, placed}
 use Rattle.tween.proofs.KeptByUpdate.{update-within}
 
-pub glides : (t : Tween) (x w e : Float) (r : Glided) → t.state ≡ Running → update_of t x ≡ advanced t w e → Slides t w e r → Glides t x r
-glides t x w e (To v p) s a h = (s, (a ∙ h.0, h.1, h.2))
-glides t x w e Unsure s a h = tt
+pub glides : (t : Tween) (x w e : Float) (r : Option Glided) → t.state ≡ Running → update_of t x ≡ advanced t w e → Slides t w e r → Glides t x r
+glides t x w e (Some g) s a h = (s, (a ∙ h.0, h.1, h.2))
+glides t x w e None s a h = tt
 
 -- one fold is due, and no other after it
 module _ (l : Loop) (d : Float) (p : Folding) (stops : due d (fold_once l d p) ≡ false) where
@@ -34,9 +33,9 @@ one-fold t w e q z b f n =
     let m : due t.duration (fold_once t.looping t.duration p) ≡ false = ap (due t.duration) (sym f) ∙ n in
     rw (z, b, folds-once t.looping t.duration p m 4094, ← f, n) refl
 
-pub goes_to : (t : Tween) (x w : Float) (p : Folding) → Glides t x (To w p) → update_of t x ≡ Ran (placed t w p) p.folds true
+pub goes_to : (t : Tween) (x w : Float) (p : Folding) → Glides t x (Some (record { waited = w; folding = p })) → update_of t x ≡ updated (placed t w p) p.folds true
 goes_to t x w p h = h.1.0 ∙ (rw (h.0, h.1.1) refl)
 
 -- and leaves the tween within its limits
-pub glide-within : (t : Tween) (x w : Float) (p : Folding) → Glides t x (To w p) → within_of (placed t w p) ≡ true
+pub glide-within : (t : Tween) (x w : Float) (p : Folding) → Glides t x (Some (record { waited = w; folding = p })) → within_of (placed t w p) ≡ true
 glide-within t x w p h = is_true (within_of (placed t w p)) (update-within t (placed t w p) x p.folds true (goes_to t x w p h) (le→leb p.loop_count 16777216 h.1.2))

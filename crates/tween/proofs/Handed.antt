@@ -1,33 +1,33 @@
 -- "Each refusal hands back the record unchanged"; and an accepted call touches nothing but what it is to change: given back, that gives back the tween. Assumes nothing.
-use Rattle.std.proofs.Common.{◌≡◌, refl, subst}
+use Rattle.std.specs.Prelude.{Ok, Result}
+use Rattle.std.proofs.Common.{◌≡◌, refl, subst, Err}
 use lib.Ieee.{Float, is_nan}
 use Rattle.math.specs.Range.{max_zero_of}
 use Rattle.math.proofs.Choice.{by-test}
 use Rattle.refusal.specs.declared.Refusal.TheVariants.{RecordBreaksLimit, ProgressIsNan}
 use Rattle.tween.specs.declared.record.Tween.{Tween}
-use Rattle.tween.specs.declared.answers.Changed.{Changed}
-use Rattle.tween.specs.declared.answers.Changed.TheVariants.{Done, Refused}
 use Rattle.tween.specs.declared.answers.Updated.{Updated}
-use Rattle.tween.specs.declared.answers.Updated.TheVariants as updated
 use Rattle.tween.specs.Parts.{with_ends, put, snapshot_in, moved}
 use Rattle.tween.specs.Limits.{within_of}
 use Rattle.tween.specs.Calls.{limited, sought_in, reset_of, seek_of, reverse_of, pause_of, resume_of}
 use Rattle.tween.specs.Update.{update_of}
 use Rattle.tween.specs.Promises.{HandsBack, ResetHandsBack, SeekHandsBack, ReverseHandsBack, PauseHandsBack, ResumeHandsBack, HandsBackUpdated, UpdateHandsBack, ResetTouches, UpdateTouches, SeekTouches, ReverseTouches, PauseTouches, ResumeTouches, sum_by}
 use Rattle.tween.proofs.Ways.{by-advanced, by-update}
+use Rattle.refusal.specs.declared.rejected.Rejected.{Rejected}
+use Rattle.refusal.specs.Refusing.{rejected}
 
 -- f makes t again of the tween that an accepted call hands back; a refusal hands t itself back
-abbrev Gives : (Tween → Tween) → Tween → Changed → Type 0
-Gives f t (Done u) = f u ≡ t
-Gives f t (Refused u r) = u ≡ t
+abbrev Gives : (Tween → Tween) → Tween → Result Tween (Rejected Tween) → Type 0
+Gives f t (Ok u) = f u ≡ t
+Gives f t (Err o) = o.value ≡ t
 
-abbrev UpdateGives : (Tween → Tween) → Tween → Updated → Type 0
-UpdateGives f t (updated.Ran u k r) = f u ≡ t
-UpdateGives f t (updated.Refused u r) = u ≡ t
+abbrev UpdateGives : (Tween → Tween) → Tween → Result Updated (Rejected Tween) → Type 0
+UpdateGives f t (Ok o) = f o.tween ≡ t
+UpdateGives f t (Err o) = o.value ≡ t
 
-hands : (f : Tween → Tween) (t : Tween) (a : Changed) → Gives f t a → HandsBack t a
-hands f t (Done u) h = tt
-hands f t (Refused u r) h = h
+hands : (f : Tween → Tween) (t : Tween) (a : Result Tween (Rejected Tween)) → Gives f t a → HandsBack t a
+hands f t (Ok u) h = tt
+hands f t (Err o) h = h
 
 -- what each call changes, given back
 abbrev state-back : Tween → Tween → Tween
@@ -43,8 +43,8 @@ abbrev moved_back : Tween → Tween → Tween
 moved_back t u = put (snapshot_in t) u
 
 module _ (t : Tween) where
-  gives : (f : Tween → Tween) (u : Tween) → f u ≡ t → Gives f t (limited t (Done u))
-  gives f u h = by-test (Gives f t) (within_of t) (Done u) (Refused t RecordBreaksLimit) (λ _. h) (λ _. refl)
+  gives : (f : Tween → Tween) (u : Tween) → f u ≡ t → Gives f t (limited t (Ok u))
+  gives f u h = by-test (Gives f t) (within_of t) (Ok u) (rejected t RecordBreaksLimit) (λ _. h) (λ _. refl)
 
   reset-gives : Gives (moved_back t) t (reset_of t)
   unfolding reset_of
@@ -54,7 +54,7 @@ module _ (t : Tween) where
   unfolding seek_of
   seek-gives p =
       by-test (Gives (sought-back t) t) (within_of t) _ _
-      (λ _. by-test (Gives (sought-back t) t) (is_nan p) (Refused t ProgressIsNan) (Done (sought_in t p)) (λ _. refl) (λ _. refl)) (λ _. refl)
+      (λ _. by-test (Gives (sought-back t) t) (is_nan p) (rejected t ProgressIsNan) (Ok (sought_in t p)) (λ _. refl) (λ _. refl)) (λ _. refl)
 
   reverse-gives : Gives (turned-back t) t (reverse_of t)
   unfolding reverse_of
@@ -99,7 +99,7 @@ pub resume-touches : ResumeTouches
 resume-touches t u e = subst (Gives (state-back t) t) e (resume-gives t)
 
 -- update: what moves
-abbrev Kept : Tween → Updated → Type 0
+abbrev Kept : Tween → Result Updated (Rejected Tween) → Type 0
 Kept t a = UpdateGives (moved_back t) t a
 
 update-gives : (t : Tween) (x : Float) → Kept t (update_of t x)
@@ -108,9 +108,9 @@ update-gives t x = by-update (Kept t) t refl refl refl (λ _. refl) (λ _. refl)
 pub update-hands-back : UpdateHandsBack
 update-hands-back t x = go (update_of t x) (update-gives t x)
   where
-    go : (a : Updated) → Kept t a → HandsBackUpdated t a
-    go (updated.Ran u k r) h = tt
-    go (updated.Refused u r) h = h
+    go : (a : Result Updated (Rejected Tween)) → Kept t a → HandsBackUpdated t a
+    go (Ok o) h = tt
+    go (Err o) h = h
 
 pub update-touches : UpdateTouches
 update-touches t u x k r e = subst (Kept t) e (update-gives t x)

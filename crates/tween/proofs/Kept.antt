@@ -1,4 +1,5 @@
 -- An accepted reset, seek, reverse, pause or resume hands back a tween within its limits. Assumes nothing.
+use Rattle.std.specs.Prelude.{Ok, Result}
 use Rattle.std.proofs.Common.{◌≡◌, false, T}
 use mathlib.Core.Path.{subst⁻¹}
 use lib.Ieee.{Float, binary32, lt, le, is_nan}
@@ -16,13 +17,13 @@ use Rattle.refusal.specs.declared.Refusal.TheVariants.{RecordBreaksLimit, Progre
 use Rattle.tween.specs.declared.record.Tween.{Tween}
 use Rattle.tween.specs.declared.record.TweenState.{TweenState}
 use Rattle.tween.specs.declared.record.TweenState.TheVariants.{Idle, Running, Paused, Completed}
-use Rattle.tween.specs.declared.answers.Changed.{Changed}
-use Rattle.tween.specs.declared.answers.Changed.TheVariants.{Done, Refused}
 use Rattle.tween.specs.Parts.{with_ends, put, moved}
 use Rattle.tween.specs.Limits.{top_wait, idle_below, within_of}
 use Rattle.tween.specs.Calls.{limited, at_start, woken, paused, resumed, sought_in, reset_of, seek_of, reverse_of, pause_of, resume_of}
 use Rattle.tween.specs.Promises.{keeps, ResetKeeps, SeekKeeps, ReverseKeeps, PauseKeeps, ResumeKeeps}
 use Rattle.tween.proofs.Bounds.{top-wait-is, Limits, limits, settings-stay, settings-turned, between, clock, within, waited, elapsed}
+use Rattle.refusal.specs.declared.rejected.Rejected.{Rejected}
+use Rattle.refusal.specs.Refusing.{rejected}
 
 -- while Idle the delay is not over; no call makes a tween Idle but reset
 idle-stays : (a : TweenState) (w d : Float) → T (idle_below a w d) → T (idle_below (woken a) w d) × T (idle_below (paused a) w d) × T (idle_below (resumed a) w d)
@@ -35,8 +36,8 @@ max-zero-to : (x d : Float) → T (le x d) → Up d → T (le (max_zero_of x) d)
 max-zero-to x d h k = by-test (λ (z : Float). T (le z d)) (lt zero_f x) x zero_f (λ _. h) (λ _. k)
 
 -- an accepted call: what holds of the tween that it makes of t holds of its answer
-accepted : (t u : Tween) → (Limits t → T (within_of u)) → T (keeps (limited t (Done u)))
-accepted t u h = by-test (λ (a : Changed). T (keeps a)) (within_of t) (Done u) (Refused t RecordBreaksLimit) (λ k. h (limits t (subst⁻¹ T k tt))) (λ _. tt)
+accepted : (t u : Tween) → (Limits t → T (within_of u)) → T (keeps (limited t (Ok u)))
+accepted t u h = by-test (λ (a : Result Tween (Rejected Tween)). T (keeps a)) (within_of t) (Ok u) (rejected t RecordBreaksLimit) (λ k. h (limits t (subst⁻¹ T k tt))) (λ _. tt)
 
 pub reset-keeps : ResetKeeps
 unfolding reset_of
@@ -49,8 +50,8 @@ reset-keeps t =
 pub seek-keeps : SeekKeeps
 unfolding seek_of
 seek-keeps t p f =
-    by-test (λ (a : Changed). T (keeps a)) (within_of t) _ _
-    (λ h. by-test (λ (a : Changed). T (keeps a)) (is_nan p) (Refused t ProgressIsNan) (Done (sought_in t p)) (λ _. tt) (λ n. sought (limits t (subst⁻¹ T h tt)) n))
+    by-test (λ (a : Result Tween (Rejected Tween)). T (keeps a)) (within_of t) _ _
+    (λ h. by-test (λ (a : Result Tween (Rejected Tween)). T (keeps a)) (is_nan p) (rejected t ProgressIsNan) (Ok (sought_in t p)) (λ _. tt) (λ n. sought (limits t (subst⁻¹ T h tt)) n))
     (λ _. tt)
   where
     sought : Limits t → is_nan p ≡ false → T (within_of (sought_in t p))

@@ -1,4 +1,5 @@
 -- "A tween that an accepted update hands back is itself within these limits, unless its loop_count has just passed 16,777,216". Assumes nothing.
+use Rattle.std.specs.Prelude.{Result}
 use Rattle.std.proofs.Common.{◌≡◌, Bool, true, false, ◌&&◌, T, refl, subst, lit≤}
 use mathlib.Core.Path.{subst⁻¹}
 use mathlib.Core.Bool.{false≢true}
@@ -18,16 +19,16 @@ use Rattle.tween.specs.declared.record.Tween.{Tween}
 use Rattle.tween.specs.declared.record.TweenState.{TweenState}
 use Rattle.tween.specs.declared.record.TweenState.TheVariants.{Idle, Running, Paused, Completed}
 use Rattle.tween.specs.declared.answers.Updated.{Updated}
-use Rattle.tween.specs.declared.answers.Updated.TheVariants as updated
 use Rattle.folds.specs.declared.Folding.{Folding}
 use Rattle.tween.specs.Parts.{put}
 use Rattle.tween.specs.Limits.{top_wait, settings_within, idle_below, clock_within, within_of}
 use Rattle.folds.specs.Folds.{fold_once, due, folds_of}
-use Rattle.tween.specs.Update.{begin_at, at_once, after_folds, ran, advanced, waiting, lost_of, wait_of, run_of, by_state, update_of}
+use Rattle.tween.specs.Update.{begin_at, at_once, after_folds, ran, advanced, waiting, lost_of, wait_of, run_of, by_state, update_of, updated}
 use Rattle.tween.specs.Promises.{keeps_but_count, UpdateKeeps, UpdateWithin}
 use Rattle.folds.proofs.Ways.{by-fold, is-due, not-due, folds-keep}
 use Rattle.tween.proofs.Ways.{folded_from, by-advanced}
 use Rattle.tween.proofs.Bounds.{top-wait-is, Limits, limits, settings-stay, between, clock, within, waited, elapsed}
+use Rattle.refusal.specs.declared.rejected.Rejected.{Rejected}
 
 -- folding: from 0 up, and at most the duration on completion
 abbrev Good : Float → Folding → Type 0
@@ -57,7 +58,7 @@ module _ (d : Float) (low : Up d) (most : AtMost 16777216 d) where
   all-good l p i = folds-keep (Good d) l d (fold-good l) 4096 (due d p) p refl i
 
 -- the update
-abbrev Fine : Updated → Type 0
+abbrev Fine : Result Updated (Rejected Tween) → Type 0
 Fine a = T (keeps_but_count a)
 
 fine : (t : Tween) → T (settings_within t) → T (clock_within t) → T (settings_within t && clock_within t)
@@ -117,7 +118,7 @@ module _ (t : Tween) (i : Limits t) where
         let rm : AtMost 33554432 r = sub-near binary32 33554432 (power-is binary32 25 (lit≤ tt)) w d wu i.delay-up wm (at-most-more 16777216 33554432 d (lit≤ tt) dm) in
         advanced-fine w (t.elapsed ⊕ r ⊗ t.time_scale) wb (sum-up r (at-most-finite 33554432 r rm) (sub-up binary32 w d (at-most-finite 16777216 d dm) over))))
 
-    as-it-is : Fine (updated.Ran t 0 true)
+    as-it-is : Fine (updated t 0 true)
     as-it-is = fine t i.settings (clock t (elapsed t i) (waited t i) i.idle)
 
     by-state-fine : (s : TweenState) → T (idle_below s t.delay_elapsed t.delay) → Fine (by_state s t x)

@@ -1,5 +1,6 @@
 -- The steps that an update refuses with 6: exactly those that are lost, those of before among them, and none of whole numbers. Assumes nothing.
-use Rattle.std.proofs.Common.{◌≡◌, ℕ, ◌+◌, ◌*◌, ◌≤◌, Bool, true, false, cond, not, ◌&&◌, T, refl, ap, ◌∙◌, ⊎_elim, eq-zero-or-pos, mul-pos, arith}
+use Rattle.std.specs.Prelude.{Result}
+use Rattle.std.proofs.Common.{◌≡◌, ℕ, ◌+◌, ◌*◌, ◌≤◌, Bool, true, false, cond, not, ◌&&◌, T, refl, ap, ◌∙◌, ⊎_elim, eq-zero-or-pos, mul-pos, arith, Ok, Err}
 use mathlib.Core.Path.{subst⁻¹}
 use mathlib.Core.Bool.{and-false}
 use lib.Ieee.{Float, binary32, lt}
@@ -16,19 +17,20 @@ use Rattle.tween.specs.declared.record.Tween.{Tween}
 use Rattle.tween.specs.declared.record.TweenState.{TweenState}
 use Rattle.tween.specs.declared.record.TweenState.TheVariants.{Idle, Running, Paused, Completed}
 use Rattle.tween.specs.declared.answers.Updated.{Updated}
-use Rattle.tween.specs.declared.answers.Updated.TheVariants.{Ran, Refused}
 use Rattle.tween.specs.Limits.{within_of}
 use Rattle.tween.specs.Update.{advanced, wait_of, run_of, by_state, update_of}
 use Rattle.tween.specs.Losses.{loses_step, UpdateSixExactly, StillLost, WholeKept}
 use Rattle.tween.proofs.Ways.{by-advanced}
+use Rattle.refusal.specs.declared.rejected.Rejected.{Rejected}
+use Rattle.refusal.specs.Refusing.{rejected}
 
-abbrev Six : Updated → Type 0
-Six (Ran u k r) = ⊥
-Six (Refused u r) = number_of r ≡ 6
+abbrev Six : Result Updated (Rejected Tween) → Type 0
+Six (Ok o) = ⊥
+Six (Err o) = number_of o.refusal ≡ 6
 
 module _ (t : Tween) where
   no_six : (w e : Float) → Six (advanced t w e) → ⊥
-  no_six w e = by-advanced (λ (a : Updated). Six a → ⊥) t w e (λ _ h. h) (λ _ _ h. omega (arith, h)) (λ _ h. h)
+  no_six w e = by-advanced (λ (a : Result Updated (Rejected Tween)). Six a → ⊥) t w e (λ _ h. h) (λ _ _ h. omega (arith, h)) (λ _ h. h)
 
   -- an update that is refused neither 4 nor 5
   six-lost : (x : Float) (s : TweenState) → Six (by_state s t x) → T (loses_step s t x)
@@ -37,13 +39,13 @@ module _ (t : Tween) where
   six-lost x Completed h = absurd h
   six-lost x Idle h =
       let lost = loses_step Idle t x in
-      by-test (λ (a : Updated). Six a → T lost) lost _ _ (λ l _. subst⁻¹ T l tt)
-      (λ _. by-test (λ (a : Updated). Six a → T lost) (lt (t.delay_elapsed ⊕ x) t.delay) _ _ (λ _ k. absurd k) (λ _ k. absurd (no_six _ _ k))) h
+      by-test (λ (a : Result Updated (Rejected Tween)). Six a → T lost) lost _ _ (λ l _. subst⁻¹ T l tt)
+      (λ _. by-test (λ (a : Result Updated (Rejected Tween)). Six a → T lost) (lt (t.delay_elapsed ⊕ x) t.delay) _ _ (λ _ k. absurd k) (λ _ k. absurd (no_six _ _ k))) h
   six-lost x Running h =
       let lost = loses_step Running t x in
-      by-test (λ (a : Updated). Six a → T lost) lost _ _ (λ l _. subst⁻¹ T l tt) (λ _ k. absurd (no_six _ _ k)) h
+      by-test (λ (a : Result Updated (Rejected Tween)). Six a → T lost) lost _ _ (λ l _. subst⁻¹ T l tt) (λ _ k. absurd (no_six _ _ k)) h
 
-  lost-six : (x : Float) (s : TweenState) → loses_step s t x ≡ true → by_state s t x ≡ Refused t StepLost
+  lost-six : (x : Float) (s : TweenState) → loses_step s t x ≡ true → by_state s t x ≡ rejected t StepLost
   unfolding by_state wait_of run_of
   lost-six x Paused h = absurd (subst⁻¹ T h tt)
   lost-six x Completed h = absurd (subst⁻¹ T h tt)
@@ -54,16 +56,16 @@ module _ (t : Tween) where
   unfolding update_of
   six-reaches x = go (within_of t) (lt top_f x)
     where
-      go : (a b : Bool) → Six (cond a (cond b (Refused t StepTooLong) (by_state t.state t (max_zero_of x))) (Refused t RecordBreaksLimit)) → T (a && not b && loses_step t.state t (max_zero_of x))
+      go : (a b : Bool) → Six (cond a (cond b (rejected t StepTooLong) (by_state t.state t (max_zero_of x))) (rejected t RecordBreaksLimit)) → T (a && not b && loses_step t.state t (max_zero_of x))
       go true false h = six-lost (max_zero_of x) t.state h
       go true true h = absurd (omega (arith, h))
       go false b h = absurd (omega (arith, h))
 
-  reaches-six : (x : Float) → T (within_of t && not (lt top_f x) && loses_step t.state t (max_zero_of x)) → update_of t x ≡ Refused t StepLost
+  reaches-six : (x : Float) → T (within_of t && not (lt top_f x) && loses_step t.state t (max_zero_of x)) → update_of t x ≡ rejected t StepLost
   unfolding update_of
   reaches-six x = go (within_of t) (lt top_f x)
     where
-      go : (a b : Bool) → T (a && not b && loses_step t.state t (max_zero_of x)) → cond a (cond b (Refused t StepTooLong) (by_state t.state t (max_zero_of x))) (Refused t RecordBreaksLimit) ≡ Refused t StepLost
+      go : (a b : Bool) → T (a && not b && loses_step t.state t (max_zero_of x)) → cond a (cond b (rejected t StepTooLong) (by_state t.state t (max_zero_of x))) (rejected t RecordBreaksLimit) ≡ rejected t StepLost
       go true false h = lost-six (max_zero_of x) t.state (is_true (loses_step t.state t (max_zero_of x)) h)
       go true true h = absurd h
       go false b h = absurd h

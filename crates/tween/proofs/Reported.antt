@@ -1,5 +1,6 @@
 -- What an update reports: at most 4,096 folds, 7 exactly where they are not enough, and `running` exactly where the tween is not completed. Assumes nothing.
-use Rattle.std.proofs.Common.{◌≡◌, ℕ, zero, suc, ◌+◌, ◌≤◌, Bool, true, false, cond, not, ◌&&◌, T, sym, refl, ap, ◌∙◌, subst, true≢false, le_refl, arith}
+use Rattle.std.specs.Prelude.{Result}
+use Rattle.std.proofs.Common.{◌≡◌, ℕ, zero, suc, ◌+◌, ◌≤◌, Bool, true, false, cond, not, ◌&&◌, T, sym, refl, ap, ◌∙◌, subst, true≢false, le_refl, arith, Ok, Err}
 use mathlib.Core.Path.{subst⁻¹}
 use borrow.Author.Tests.{not-true}
 use lib.Ieee.{Float, lt, eq}
@@ -15,7 +16,6 @@ use Rattle.tween.specs.declared.record.Tween.{Tween}
 use Rattle.tween.specs.declared.record.TweenState.{TweenState}
 use Rattle.tween.specs.declared.record.TweenState.TheVariants.{Idle, Running, Paused, Completed}
 use Rattle.tween.specs.declared.answers.Updated.{Updated}
-use Rattle.tween.specs.declared.answers.Updated.TheVariants.{Ran, Refused}
 use Rattle.folds.specs.declared.Folding.{Folding}
 use Rattle.folds.specs.Folds.{fold_once, due, folds_of}
 use Rattle.tween.specs.Update.{begin_at, advanced, lost_of, wait_of, run_of, by_state, update_of}
@@ -23,6 +23,8 @@ use Rattle.tween.specs.Limits.{within_of}
 use Rattle.tween.specs.Promises.{is_completed, sum_by, runs_on, comes_to_fold, fold_times, TooFew, UpdateFolds, UpdateRunning, UpdateSevenExactly}
 use Rattle.folds.proofs.Ways.{fold-counts}
 use Rattle.tween.proofs.Ways.{folded_from, by-advanced, by-update}
+use Rattle.refusal.specs.declared.rejected.Rejected.{Rejected}
+use Rattle.refusal.specs.Refusing.{rejected}
 
 -- n folds at most add n at most
 folds-few : (n : ℕ) (b : Bool) (l : Loop) (d : Float) (p : Folding) → (folds_of n b l d p).folds ≤ p.folds + n
@@ -33,9 +35,9 @@ folds-few (suc n) true l d p =
     let q = fold_once l d p in
     omega (arith, fold-counts l d p, folds-few n (due d q) l d q)
 
-abbrev Few : Updated → Type 0
-Few (Ran u k r) = k ≤ 4096
-Few (Refused u r) = Unit {0}
+abbrev Few : Result Updated (Rejected Tween) → Type 0
+Few (Ok o) = o.folds ≤ 4096
+Few (Err o) = Unit {0}
 
 few : (t : Tween) (x : Float) → Few (update_of t x)
 few t x =
@@ -48,9 +50,9 @@ pub update-folds : UpdateFolds
 update-folds t u x k r e = subst Few e (few t x)
 
 -- running
-abbrev Tells : Updated → Type 0
-Tells (Ran u k r) = r ≡ not (is_completed u.state)
-Tells (Refused u r) = Unit {0}
+abbrev Tells : Result Updated (Rejected Tween) → Type 0
+Tells (Ok o) = o.running ≡ not (is_completed o.tween.state)
+Tells (Err o) = Unit {0}
 
 ran-tells : (c : Bool) → not c ≡ not (is_completed (cond c Completed Running))
 ran-tells true = refl
@@ -84,28 +86,28 @@ module _ (l : Loop) (d : Float) where
 failed : (b : Bool) → T (not b) → b ≡ false
 failed b h = not-true b (is_true (not b) h)
 
-abbrev Seven : Updated → Type 0
-Seven (Ran u k r) = ⊥
-Seven (Refused u r) = number_of r ≡ 7
+abbrev Seven : Result Updated (Rejected Tween) → Type 0
+Seven (Ok o) = ⊥
+Seven (Err o) = number_of o.refusal ≡ 7
 
 module _ (t : Tween) where
   seven-needs : (w e : Float) → Seven (advanced t w e) → (eq t.duration zero_f ≡ false) × TooFew t e
   seven-needs w e =
       let p = begin_at t e in
-      by-advanced (λ (a : Updated). Seven a → (eq t.duration zero_f ≡ false) × TooFew t e) t w e (λ _ h. absurd h)
+      by-advanced (λ (a : Result Updated (Rejected Tween)). Seven a → (eq t.duration zero_f ≡ false) × TooFew t e) t w e (λ _ h. absurd h)
       (λ z g _. (z, due-before t.looping t.duration 4096 (due t.duration p) p refl g)) (λ _ h. absurd h)
 
-  seven-due : (w e : Float) → eq t.duration zero_f ≡ false → TooFew t e → advanced t w e ≡ Refused t TooManyFolds
+  seven-due : (w e : Float) → eq t.duration zero_f ≡ false → TooFew t e → advanced t w e ≡ rejected t TooManyFolds
   seven-due w e z few =
       let p = begin_at t e in
-      by-advanced (λ (a : Updated). a ≡ Refused t TooManyFolds) t w e (λ k. absurd (true≢false (sym k ∙ z))) (λ _ _. refl)
+      by-advanced (λ (a : Result Updated (Rejected Tween)). a ≡ rejected t TooManyFolds) t w e (λ k. absurd (true≢false (sym k ∙ z))) (λ _ _. refl)
       (λ g. absurd (true≢false (sym (few 4096 (le_refl 4096)) ∙ ap (due t.duration) (sym (all_made t.looping t.duration 4096 (due t.duration p) p refl few)) ∙ g)))
 
   -- an update gives 7 there alone
-  pub update-seven : (u : Tween) (x : Float) → update_of t x ≡ Refused u TooManyFolds → (eq t.duration zero_f ≡ false) × TooFew t (sum_by (max_zero_of x) t t.state)
+  pub update-seven : (u : Tween) (x : Float) → update_of t x ≡ rejected u TooManyFolds → (eq t.duration zero_f ≡ false) × TooFew t (sum_by (max_zero_of x) t t.state)
   update-seven u x h =
       let e = sum_by (max_zero_of x) t t.state in
-      by-update (λ (a : Updated). Seven a → (eq t.duration zero_f ≡ false) × TooFew t e) t (λ k. absurd (omega arith)) (λ k. absurd (omega arith)) (λ k. absurd (omega arith))
+      by-update (λ (a : Result Updated (Rejected Tween)). Seven a → (eq t.duration zero_f ≡ false) × TooFew t e) t (λ k. absurd (omega arith)) (λ k. absurd (omega arith)) (λ k. absurd (omega arith))
       (λ _ k. absurd k) (λ _ k. absurd k) (λ _ k. absurd k) x (λ w. seven-needs w e) (subst⁻¹ Seven h refl)
 
   -- where the update comes to fold
@@ -129,19 +131,19 @@ module _ (t : Tween) where
   seven_runs x Idle h =
       let w = t.delay_elapsed ⊕ x in
       let lost = lost_of Idle t x w in
-      by-test (λ (a : Updated). Seven a → T (not lost && not (lt w t.delay))) lost _ _ (λ _ k. absurd (omega arith))
-      (λ l. by-test (λ (a : Updated). Seven a → T (not lost && not (lt w t.delay))) (lt w t.delay) _ _ (λ _ k. absurd k) (λ d k. rw (l, d) tt)) h
+      by-test (λ (a : Result Updated (Rejected Tween)). Seven a → T (not lost && not (lt w t.delay))) lost _ _ (λ _ k. absurd (omega arith))
+      (λ l. by-test (λ (a : Result Updated (Rejected Tween)). Seven a → T (not lost && not (lt w t.delay))) (lt w t.delay) _ _ (λ _ k. absurd k) (λ d k. rw (l, d) tt)) h
   seven_runs x Running h =
       let lost = lost_of Running t x (t.elapsed ⊕ x ⊗ t.time_scale) in
-      by-test (λ (a : Updated). Seven a → T (not lost)) lost _ _ (λ _ k. absurd (omega arith)) (λ l k. rw l tt) h
+      by-test (λ (a : Result Updated (Rejected Tween)). Seven a → T (not lost)) lost _ _ (λ _ k. absurd (omega arith)) (λ l k. rw l tt) h
 
   seven-reaches : (x : Float) → Seven (update_of t x) → T (within_of t && not (lt top_f x) && runs_on (max_zero_of x) t t.state)
   unfolding update_of
   seven-reaches x =
       let r = runs_on (max_zero_of x) t t.state in
-      by-test (λ (a : Updated). Seven a → T (within_of t && not (lt top_f x) && r)) (within_of t) _ _
+      by-test (λ (a : Result Updated (Rejected Tween)). Seven a → T (within_of t && not (lt top_f x) && r)) (within_of t) _ _
       (λ w.
-      by-test (λ (a : Updated). Seven a → T (within_of t && not (lt top_f x) && r)) (lt top_f x) _ _ (λ _ k. absurd (omega arith))
+      by-test (λ (a : Result Updated (Rejected Tween)). Seven a → T (within_of t && not (lt top_f x) && r)) (lt top_f x) _ _ (λ _ k. absurd (omega arith))
       (λ l k. and_i (within_of t && not (lt top_f x)) r (rw (w, l) tt) (seven_runs (max_zero_of x) t.state k)))
       (λ _ k. absurd (omega arith))
 
@@ -149,14 +151,14 @@ pub update-seven-exactly : UpdateSevenExactly
 unfolding update_of
 update-seven-exactly t x = (λ h. (comes h, (update-seven t t x h).1), λ h. due-then h.0 h.1)
   where
-    comes : update_of t x ≡ Refused t TooManyFolds → T (comes_to_fold t x)
+    comes : update_of t x ≡ rejected t TooManyFolds → T (comes_to_fold t x)
     comes h =
         let r = runs_on (max_zero_of x) t t.state in
         let a = seven-reaches t x (subst⁻¹ Seven h refl) in
         let z = (update-seven t t x h).0 in
         and_i (within_of t && not (lt top_f x) && r) (not (eq t.duration zero_f)) a (rw z tt)
 
-    due-then : T (comes_to_fold t x) → TooFew t (sum_by (max_zero_of x) t t.state) → update_of t x ≡ Refused t TooManyFolds
+    due-then : T (comes_to_fold t x) → TooFew t (sum_by (max_zero_of x) t t.state) → update_of t x ≡ rejected t TooManyFolds
     due-then h few =
         let r = runs_on (max_zero_of x) t t.state in
         let e = within_of t && not (lt top_f x) in

@@ -1,4 +1,5 @@
 -- A tween within its limits has a progress from 0 to 1, an eased progress and a value, both finite: it never meets a refusal of its easing. Assumes nothing.
+use Rattle.std.specs.Prelude.{Ok, Result}
 use Rattle.std.proofs.Common.{◌≡◌, true, T, refl, lit≤}
 use mathlib.Core.Path.{subst⁻¹}
 use lib.Ieee.{binary32, eq}
@@ -14,8 +15,6 @@ use Rattle.math.proofs.Bounded.{one-within, blend-most}
 use Rattle.math.proofs.Ranges.{clamped}
 use Rattle.bezier.specs.declared.types.Found.{Found}
 use Rattle.bezier.specs.Bezier.{plain_of, with_value}
-use Rattle.easing.specs.declared.answers.Eased.{Eased}
-use Rattle.easing.specs.declared.answers.Eased.TheVariants.{Value}
 use Rattle.easing.specs.Apply.{apply_of}
 use Rattle.easing.proofs.Finite.{apply-bounded}
 use Rattle.tween.specs.declared.record.Tween.{Tween}
@@ -24,10 +23,11 @@ use Rattle.tween.specs.Calls.{progress_in, progress_of, eased_progress_of, blend
 use Rattle.tween.specs.Promises.{ProgressAnswers, EasedProgressAnswers, ValueAnswers}
 use Rattle.tween.proofs.Bounds.{Limits, limits}
 use Rattle.easing.proofs.Answering.{fits-answers}
+use Rattle.refusal.specs.declared.Refusal.{Refusal}
 
 -- a value, at most 2 ^ 53 in size
-abbrev Finite : Eased → Type 0
-Finite a = (f : Found) × (a ≡ Value f) × AtMost 9007199254740992 f.value
+abbrev Finite : Result Found Refusal → Type 0
+Finite a = (f : Found) × (a ≡ Ok f) × AtMost 9007199254740992 f.value
 
 module _ (t : Tween) (h : T (within_of t)) where
   pub within : within_of t ≡ true
@@ -42,7 +42,7 @@ module _ (t : Tween) (h : T (within_of t)) where
       by-test Within (eq d zero_f) one_f (clamp01_of (t.elapsed ⊘ d)) (λ _. one-within)
       (λ z. clamped (t.elapsed ⊘ d) (div-number binary32 t.elapsed d (at-most-finite 16777216 t.elapsed i.elapsed-most) (at-most-finite 16777216 d i.duration-most) z))
 
-  pub eased : (f : Found) × (apply_of t.easing (progress_in t) ≡ Value f)
+  pub eased : (f : Found) × (apply_of t.easing (progress_in t) ≡ Ok f)
   eased = fits-answers t.easing (progress_in t) i.easing-fits (le-numbers zero_f (progress_in t) progress-within.0).1
 
   blended : Finite (blend_in t (apply_of t.easing (progress_in t)))
@@ -50,7 +50,7 @@ module _ (t : Tween) (h : T (within_of t)) where
       let f = eased.0 in
       let c = f.value in
       let m : AtMost 134217728 c = apply-bounded t.easing (progress_in t) f eased.1 in
-      subst⁻¹ (λ (a : Eased). Finite (blend_in t a)) eased.1 (
+      subst⁻¹ (λ (a : Result Found Refusal). Finite (blend_in t a)) eased.1 (
         with_value (blend_at t c) f,
         refl,
         by-test (AtMost 9007199254740992) t.ping_pong_reverse (blend_of t.end t.start c) (blend_of t.start t.end c)
@@ -71,5 +71,5 @@ pub value-answers : ValueAnswers
 unfolding value_of
 value-answers t h =
     rw (within t h)
-    (by-test Finite (eq t.duration zero_f) (Value (plain_of t.end)) (blend_in t (apply_of t.easing (progress_in t)))
+    (by-test Finite (eq t.duration zero_f) (Ok (plain_of t.end)) (blend_in t (apply_of t.easing (progress_in t)))
     (λ _. (plain_of t.end, refl, at-most-more 16777216 9007199254740992 t.end (lit≤ tt) (limits t h).end-most)) (λ _. blended t h))

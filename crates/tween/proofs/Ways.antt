@@ -1,4 +1,5 @@
 -- The ways that an update can go: what holds of each way holds of it. Assumes nothing.
+use Rattle.std.specs.Prelude.{Result}
 use Rattle.std.proofs.Common.{◌≡◌, true, false, refl}
 use lib.Ieee.{Float, lt, eq}
 use Rattle.math.specs.Rounded.{zero_f, top_f, ◌⊕◌, ◌⊗◌}
@@ -11,26 +12,27 @@ use Rattle.tween.specs.declared.record.Tween.{Tween}
 use Rattle.tween.specs.declared.record.TweenState.{TweenState}
 use Rattle.tween.specs.declared.record.TweenState.TheVariants.{Idle, Running, Paused, Completed}
 use Rattle.tween.specs.declared.answers.Updated.{Updated}
-use Rattle.tween.specs.declared.answers.Updated.TheVariants.{Ran, Refused}
 use Rattle.tween.specs.Parts.{put}
 use Rattle.tween.specs.Limits.{within_of}
-use Rattle.tween.specs.Update.{begin_at, at_once, ran, folded, advanced, waiting, lost_of, wait_of, run_of, by_state, update_of}
+use Rattle.tween.specs.Update.{begin_at, at_once, ran, folded, advanced, waiting, lost_of, wait_of, run_of, by_state, update_of, updated}
 use Rattle.tween.specs.Promises.{sum_by}
+use Rattle.refusal.specs.declared.rejected.Rejected.{Rejected}
+use Rattle.refusal.specs.Refusing.{rejected}
 
 -- t folded from an elapsed e
 abbrev pub folded_from : Tween → Float → Folding
 folded_from t e = folds_of 4096 (due t.duration (begin_at t e)) t.looping t.duration (begin_at t e)
 
 -- t runs on: a duration of 0 completes at once; else it folds, and 7 where a fold is due still
-pub by-advanced : (C : Updated → Type 0) (t : Tween) (w e : Float) → (eq t.duration zero_f ≡ true → C (ran t w (at_once t)))
-    → (eq t.duration zero_f ≡ false → due t.duration (folded_from t e) ≡ true → C (Refused t TooManyFolds))
+pub by-advanced : (C : Result Updated (Rejected Tween) → Type 0) (t : Tween) (w e : Float) → (eq t.duration zero_f ≡ true → C (ran t w (at_once t)))
+    → (eq t.duration zero_f ≡ false → due t.duration (folded_from t e) ≡ true → C (rejected t TooManyFolds))
     → (due t.duration (folded_from t e) ≡ false → C (ran t w (folded_from t e))) → C (advanced t w e)
 unfolding advanced folded
 by-advanced C t w e h k m = by-test C (eq t.duration zero_f) _ _ h (λ z. by-test C (due t.duration (folded_from t e)) _ _ (k z) m)
 
 -- an update is refused, changes nothing, waits, or lets t run on
-module _ (C : Updated → Type 0) (t : Tween) (limit : C (Refused t RecordBreaksLimit)) (long : C (Refused t StepTooLong)) (lost : C (Refused t StepLost))
-    (completed : t.state ≡ Completed → C (Ran t 0 false)) (paused : t.state ≡ Paused → C (Ran t 0 true)) (waits : (w : Float) → C (Ran (put (waiting t w) t) 0 true)) where
+module _ (C : Result Updated (Rejected Tween) → Type 0) (t : Tween) (limit : C (rejected t RecordBreaksLimit)) (long : C (rejected t StepTooLong)) (lost : C (rejected t StepLost))
+    (completed : t.state ≡ Completed → C (updated t 0 false)) (paused : t.state ≡ Paused → C (updated t 0 true)) (waits : (w : Float) → C (updated (put (waiting t w) t) 0 true)) where
   by_state_lem : (x : Float) (s : TweenState) → t.state ≡ s → ((w : Float) → C (advanced t w (sum_by x t s))) → C (by_state s t x)
   unfolding by_state wait_of run_of
   by_state_lem x Completed h runs = completed h

@@ -8,9 +8,9 @@ use Rattle.refusal.specs.declared.Refusal.TheVariants.{StepLost}
 use Rattle.tween.specs.declared.record.Tween.{Tween}
 use Rattle.tween.specs.declared.record.TweenState.{TweenState}
 use Rattle.tween.specs.declared.record.TweenState.TheVariants.{Idle, Running, Paused, Completed}
-use Rattle.tween.specs.declared.answers.Updated.TheVariants.{Refused}
 use Rattle.tween.specs.Limits.{within_of}
 use Rattle.tween.specs.Update.{lost_of, update_of}
+use Rattle.refusal.specs.Refusing.{rejected}
 
 -- the step x is lost, in the sum that it goes into: "the delay sum" while Idle, "the sum" while Running
 abbrev pub loses_step : TweenState → Tween → Float → Bool
@@ -23,7 +23,7 @@ loses_step Completed t x = false
 abbrev pub UpdateSixExactly : Type 0
 UpdateSixExactly =
     (t : Tween) (x : Float)
-    → (update_of t x ≡ Refused t StepLost) ↔ T (within_of t && not (lt top_f x) && loses_step t.state t (max_zero_of x))
+    → (update_of t x ≡ rejected t StepLost) ↔ T (within_of t && not (lt top_f x) && loses_step t.state t (max_zero_of x))
 
 -- document 01's rule, which request 5 corrects: "step > 0 and either Idle with the delay sum equal to delay_elapsed, or Running with scale > 0, elapsed < duration and the sum equal to elapsed"
 abbrev pub stands_still : TweenState → Tween → Float → Bool

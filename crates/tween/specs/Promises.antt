@@ -1,32 +1,29 @@
 -- Document 01, "Records and their limits" and "Refusal numbers": what holds of every answer of a call. Each sentence is a type; its proof has its name in small letters.
-use Rattle.std.specs.Prelude.{◌≡◌, ℕ, zero, suc, ◌≤◌, Bool, true, false, not, ◌&&◌, T, ◌↔◌, Float}
+use Rattle.std.specs.Prelude.{◌≡◌, ℕ, zero, suc, ◌≤◌, Bool, true, false, not, ◌&&◌, T, ◌↔◌, Float, Ok, Result, Err}
 use Rattle.std.specs.Float.{binary32}
 use Rattle.std.specs.Float.Ieee.{fits, lt, eq}
 use Rattle.math.specs.Rounded.{zero_f, top_f, ◌⊕◌, ◌⊖◌, ◌⊗◌}
 use Rattle.math.specs.Range.{max_zero_of, Within, AtMost}
 use Rattle.refusal.specs.declared.Refusal.TheVariants.{TooManyFolds}
 use Rattle.bezier.specs.declared.types.Found.{Found}
-use Rattle.units.specs.declared.InProgress.TheVariants as progress
-use Rattle.easing.specs.declared.answers.Eased.TheVariants as eased
 use Rattle.loop_mode.specs.declared.Loop.{Loop}
 use Rattle.tween.specs.declared.record.Tween.{Tween}
 use Rattle.tween.specs.declared.record.TweenState.{TweenState}
 use Rattle.tween.specs.declared.record.TweenState.TheVariants.{Idle, Running, Paused, Completed}
-use Rattle.tween.specs.declared.answers.Changed.{Changed}
-use Rattle.tween.specs.declared.answers.Changed.TheVariants as changed
 use Rattle.tween.specs.declared.answers.Updated.{Updated}
-use Rattle.tween.specs.declared.answers.Updated.TheVariants as updated
 use Rattle.folds.specs.declared.Folding.{Folding}
 use Rattle.tween.specs.Parts.{with_ends, put, snapshot_in, moved}
 use Rattle.tween.specs.Limits.{settings_within, clock_within, count_within, within_of}
 use Rattle.folds.specs.Folds.{fold_once, due}
 use Rattle.tween.specs.Calls.{progress_of, eased_progress_of, value_of, reset_of, seek_of, reverse_of, pause_of, resume_of}
-use Rattle.tween.specs.Update.{begin_at, lost_of, update_of}
+use Rattle.tween.specs.Update.{begin_at, lost_of, update_of, updated}
+use Rattle.refusal.specs.declared.rejected.Rejected.{Rejected}
+use Rattle.refusal.specs.Refusing.{rejected}
 
 -- an accepted call hands back a tween within its limits
-abbrev pub keeps : Changed → Bool
-keeps (changed.Done u) = within_of u
-keeps (changed.Refused u r) = true
+abbrev pub keeps : Result Tween (Rejected Tween) → Bool
+keeps (Ok u) = within_of u
+keeps (Err o) = true
 
 abbrev pub ResetKeeps : Type 0
 ResetKeeps = (t : Tween) → T (keeps (reset_of t))
@@ -46,20 +43,20 @@ ResumeKeeps = (t : Tween) → T (keeps (resume_of t))
 
 -- "A tween that an accepted update hands back is itself within these limits, unless its loop_count has just passed 16,777,216"
 abbrev pub UpdateWithin : Type 0
-UpdateWithin = (t u : Tween) (x : Float) (k : ℕ) (r : Bool) → update_of t x ≡ updated.Ran u k r → T (count_within u) → T (within_of u)
+UpdateWithin = (t u : Tween) (x : Float) (k : ℕ) (r : Bool) → update_of t x ≡ updated u k r → T (count_within u) → T (within_of u)
 
 -- every other limit holds in any case
-abbrev pub keeps_but_count : Updated → Bool
-keeps_but_count (updated.Ran u k r) = settings_within u && clock_within u
-keeps_but_count (updated.Refused u r) = true
+abbrev pub keeps_but_count : Result Updated (Rejected Tween) → Bool
+keeps_but_count (Ok o) = settings_within o.tween && clock_within o.tween
+keeps_but_count (Err o) = true
 
 abbrev pub UpdateKeeps : Type 0
 UpdateKeeps = (t : Tween) (x : Float) → T (keeps_but_count (update_of t x))
 
 -- "Each refusal hands back the record unchanged"
-abbrev pub HandsBack : Tween → Changed → Type 0
-HandsBack t (changed.Done u) = Unit {0}
-HandsBack t (changed.Refused u r) = u ≡ t
+abbrev pub HandsBack : Tween → Result Tween (Rejected Tween) → Type 0
+HandsBack t (Ok u) = Unit {0}
+HandsBack t (Err o) = o.value ≡ t
 
 abbrev pub ResetHandsBack : Type 0
 ResetHandsBack = (t : Tween) → HandsBack t (reset_of t)
@@ -76,49 +73,49 @@ PauseHandsBack = (t : Tween) → HandsBack t (pause_of t)
 abbrev pub ResumeHandsBack : Type 0
 ResumeHandsBack = (t : Tween) → HandsBack t (resume_of t)
 
-abbrev pub HandsBackUpdated : Tween → Updated → Type 0
-HandsBackUpdated t (updated.Ran u k r) = Unit {0}
-HandsBackUpdated t (updated.Refused u r) = u ≡ t
+abbrev pub HandsBackUpdated : Tween → Result Updated (Rejected Tween) → Type 0
+HandsBackUpdated t (Ok o) = Unit {0}
+HandsBackUpdated t (Err o) = o.value ≡ t
 
 abbrev pub UpdateHandsBack : Type 0
 UpdateHandsBack = (t : Tween) (x : Float) → HandsBackUpdated t (update_of t x)
 
 -- an accepted call touches nothing but what it is to change: given back, that gives back the tween. Reset and update: what moves
 abbrev pub ResetTouches : Type 0
-ResetTouches = (t u : Tween) → reset_of t ≡ changed.Done u → put (snapshot_in t) u ≡ t
+ResetTouches = (t u : Tween) → reset_of t ≡ Ok u → put (snapshot_in t) u ≡ t
 
 abbrev pub UpdateTouches : Type 0
-UpdateTouches = (t u : Tween) (x : Float) (k : ℕ) (r : Bool) → update_of t x ≡ updated.Ran u k r → put (snapshot_in t) u ≡ t
+UpdateTouches = (t u : Tween) (x : Float) (k : ℕ) (r : Bool) → update_of t x ≡ updated u k r → put (snapshot_in t) u ≡ t
 
 -- seek: elapsed and the state
 abbrev pub SeekTouches : Type 0
-SeekTouches = (t u : Tween) (p : Float) → seek_of t p ≡ changed.Done u → put (moved t.elapsed t.state u) u ≡ t
+SeekTouches = (t u : Tween) (p : Float) → seek_of t p ≡ Ok u → put (moved t.elapsed t.state u) u ≡ t
 
 -- reverse: these and the ends
 abbrev pub ReverseTouches : Type 0
-ReverseTouches = (t u : Tween) → reverse_of t ≡ changed.Done u → with_ends u.end u.start (moved t.elapsed t.state u) u ≡ t
+ReverseTouches = (t u : Tween) → reverse_of t ≡ Ok u → with_ends u.end u.start (moved t.elapsed t.state u) u ≡ t
 
 -- pause and resume: the state
 abbrev pub PauseTouches : Type 0
-PauseTouches = (t u : Tween) → pause_of t ≡ changed.Done u → put (moved u.elapsed t.state u) u ≡ t
+PauseTouches = (t u : Tween) → pause_of t ≡ Ok u → put (moved u.elapsed t.state u) u ≡ t
 
 abbrev pub ResumeTouches : Type 0
-ResumeTouches = (t u : Tween) → resume_of t ≡ changed.Done u → put (moved u.elapsed t.state u) u ≡ t
+ResumeTouches = (t u : Tween) → resume_of t ≡ Ok u → put (moved u.elapsed t.state u) u ≡ t
 
 -- a tween within its limits has a progress from 0 to 1, an eased progress and a value, both finite: "Easing inside a record must be supplied and within limits", so that it never refuses
 abbrev pub ProgressAnswers : Type 0
-ProgressAnswers = (t : Tween) → T (within_of t) → (p : Float) × (progress_of t ≡ progress.Progress (record { 0 = p })) × Within p
+ProgressAnswers = (t : Tween) → T (within_of t) → (p : Float) × (progress_of t ≡ Ok (record { 0 = p })) × Within p
 
 abbrev pub EasedProgressAnswers : Type 0
-EasedProgressAnswers = (t : Tween) → T (within_of t) → (f : Found) × (eased_progress_of t ≡ eased.Value f) × AtMost 134217728 f.value
+EasedProgressAnswers = (t : Tween) → T (within_of t) → (f : Found) × (eased_progress_of t ≡ Ok f) × AtMost 134217728 f.value
 
 -- at most 2 ^ 53 in size
 abbrev pub ValueAnswers : Type 0
-ValueAnswers = (t : Tween) → T (within_of t) → (f : Found) × (value_of t ≡ eased.Value f) × AtMost 9007199254740992 f.value
+ValueAnswers = (t : Tween) → T (within_of t) → (f : Found) × (value_of t ≡ Ok f) × AtMost 9007199254740992 f.value
 
 -- "how many folds it made": 4,096 at most
 abbrev pub UpdateFolds : Type 0
-UpdateFolds = (t u : Tween) (x : Float) (k : ℕ) (r : Bool) → update_of t x ≡ updated.Ran u k r → k ≤ 4096
+UpdateFolds = (t u : Tween) (x : Float) (k : ℕ) (r : Bool) → update_of t x ≡ updated u k r → k ≤ 4096
 
 abbrev pub is_completed : TweenState → Bool
 is_completed Idle = false
@@ -128,7 +125,7 @@ is_completed Completed = true
 
 -- the source's answer: whether the tween goes on
 abbrev pub UpdateRunning : Type 0
-UpdateRunning = (t u : Tween) (x : Float) (k : ℕ) (r : Bool) → update_of t x ≡ updated.Ran u k r → r ≡ not (is_completed u.state)
+UpdateRunning = (t u : Tween) (x : Float) (k : ℕ) (r : Bool) → update_of t x ≡ updated u k r → r ≡ not (is_completed u.state)
 
 -- what elapsed comes to by a step x, if the tween runs on: "Running adds step times scale"; while Idle, "the excess times scale is added to elapsed"
 abbrev pub sum_by : Float → Tween → TweenState → Float
@@ -161,4 +158,4 @@ TooFew t e = (n : ℕ) → n ≤ 4096 → due t.duration (fold_times n t.looping
 abbrev pub UpdateSevenExactly : Type 0
 UpdateSevenExactly =
     (t : Tween) (x : Float)
-    → (update_of t x ≡ updated.Refused t TooManyFolds) ↔ (T (comes_to_fold t x) × TooFew t (sum_by (max_zero_of x) t t.state))
+    → (update_of t x ≡ rejected t TooManyFolds) ↔ (T (comes_to_fold t x) × TooFew t (sum_by (max_zero_of x) t t.state))

@@ -1,5 +1,5 @@
 -- Document 01, "The tween": `update`.
-use Rattle.std.specs.Prelude.{Bool, true, false, cond, not, ◌&&◌, Float}
+use Rattle.std.specs.Prelude.{Bool, true, false, cond, not, ◌&&◌, Float, Result, ℕ, Ok}
 use Rattle.std.specs.Float.Ieee.{lt, eq}
 use Rattle.math.specs.Rounded.{zero_f, top_f, ◌⊕◌, ◌⊖◌, ◌⊗◌}
 use Rattle.math.specs.Range.{max_zero_of}
@@ -11,11 +11,16 @@ use Rattle.tween.specs.declared.record.TweenSnapshot.{TweenSnapshot}
 use Rattle.tween.specs.declared.record.TweenState.{TweenState}
 use Rattle.tween.specs.declared.record.TweenState.TheVariants.{Idle, Running, Paused, Completed}
 use Rattle.tween.specs.declared.answers.Updated.{Updated}
-use Rattle.tween.specs.declared.answers.Updated.TheVariants.{Ran, Refused}
 use Rattle.folds.specs.declared.Folding.{Folding}
 use Rattle.tween.specs.Parts.{put}
 use Rattle.tween.specs.Limits.{within_of}
 use Rattle.folds.specs.Folds.{due, folds_of}
+use Rattle.refusal.specs.declared.rejected.Rejected.{Rejected}
+use Rattle.refusal.specs.Refusing.{rejected}
+
+-- "The update's answer also carries how many folds it made", and whether the tween goes on
+abbrev pub updated : Tween → ℕ → Bool → Result Updated (Rejected Tween)
+updated t folds running = Ok (record { tween = t; folds = folds; running = running })
 
 -- the folding begins at an elapsed e
 abbrev pub begin_at : Tween → Float → Folding
@@ -50,18 +55,18 @@ after_folds w p =
       state = cond p.completed Completed Running;
     }
 
--- "The update's answer also carries how many folds it made"
-abbrev pub ran : Tween → Float → Folding → Updated
-ran t w p = Ran (put (after_folds w p) t) p.folds (not p.completed)
+-- t after its folds
+abbrev pub ran : Tween → Float → Folding → Result Updated (Rejected Tween)
+ran t w p = updated (put (after_folds w p) t) p.folds (not p.completed)
 
 -- 7: "after 4,096 folds a tween's elapsed would still be at least its duration and the tween not completed"
-unfoldable pub folded : Tween → Float → Folding → Updated
+unfoldable pub folded : Tween → Float → Folding → Result Updated (Rejected Tween)
 folded t w p =
-    when (due t.duration p) (Refused t TooManyFolds)
+    when (due t.duration p) (rejected t TooManyFolds)
     (ran t w p)
 
 -- t runs on with delay_elapsed w and elapsed e: "Duration 0 then completes [..]. Otherwise, while elapsed is at least duration, one fold"
-unfoldable pub advanced : Tween → Float → Float → Updated
+unfoldable pub advanced : Tween → Float → Float → Result Updated (Rejected Tween)
 advanced t w e =
     cond (eq t.duration zero_f) (ran t w (at_once t))
     (let p = begin_at t e in folded t w (folds_of 4096 (due t.duration p) t.looping t.duration p))
@@ -87,28 +92,28 @@ lost_of Paused t x sum = false
 lost_of Completed t x sum = false
 
 -- Idle, with a delay sum w: 6, or "once that is at least the delay, Running, and the excess times scale is added to elapsed"
-unfoldable pub wait_of : Tween → Float → Float → Updated
+unfoldable pub wait_of : Tween → Float → Float → Result Updated (Rejected Tween)
 wait_of t x w =
-    when (lost_of Idle t x w) (Refused t StepLost)
-    (cond (lt w t.delay) (Ran (put (waiting t w) t) 0 true)
+    when (lost_of Idle t x w) (rejected t StepLost)
+    (cond (lt w t.delay) (updated (put (waiting t w) t) 0 true)
     (advanced t w (t.elapsed ⊕ (w ⊖ t.delay) ⊗ t.time_scale)))
 
 -- Running, with a sum e: 6, or t runs on
-unfoldable pub run_of : Tween → Float → Float → Updated
+unfoldable pub run_of : Tween → Float → Float → Result Updated (Rejected Tween)
 run_of t x e =
-    when (lost_of Running t x e) (Refused t StepLost)
+    when (lost_of Running t x e) (rejected t StepLost)
     (advanced t t.delay_elapsed e)
 
 -- "Completed and Paused change nothing. Idle adds the step to delay_elapsed [..]. Running adds step times scale"
-unfoldable pub by_state : TweenState → Tween → Float → Updated
-by_state Completed t x = Ran t 0 false
-by_state Paused t x = Ran t 0 true
+unfoldable pub by_state : TweenState → Tween → Float → Result Updated (Rejected Tween)
+by_state Completed t x = updated t 0 false
+by_state Paused t x = updated t 0 true
 by_state Idle t x = wait_of t x (t.delay_elapsed ⊕ x)
 by_state Running t x = run_of t x (t.elapsed ⊕ x ⊗ t.time_scale)
 
 -- the refusals in their order, 4, 5, 6, 7; "NaN, negative and -0 steps count as +0"
-unfoldable pub update_of : Tween → Float → Updated
+unfoldable pub update_of : Tween → Float → Result Updated (Rejected Tween)
 update_of t x =
-    unless (within_of t) (Refused t RecordBreaksLimit)
-    (when (lt top_f x) (Refused t StepTooLong)
+    unless (within_of t) (rejected t RecordBreaksLimit)
+    (when (lt top_f x) (rejected t StepTooLong)
     (by_state t.state t (max_zero_of x)))

@@ -6,10 +6,11 @@ ghost use Rattle.tween.specs.Calls.{blend_at, value_of};
 
 use crate::record::Tween;
 use bezier::Found;
-use easing::{Eased, Easing};
+use easing::Easing;
 use units::Progress;
 
-fn blend_at(t: Tween, c: f32) -> f32
+// The ends are exchanged while ping_pong_reverse.
+pub(crate) fn blend_at(t: Tween, c: f32) -> f32
     ensures { result ≡ blend_at t c }
 {
     if t.ping_pong_reverse {
@@ -22,7 +23,7 @@ fn blend_at(t: Tween, c: f32) -> f32
 // call. Such a tween has a value: the 0 is never answered.
 pub fn value_by(easing: Easing, t: Tween) -> Found
     requires { (within_of t ≡ true) × (t.easing ≡ easing) }
-    ensures { value_of t ≡ Eased.Value result }
+    ensures { value_of t ≡ Ok result }
 {
     if t.duration == 0.0 {
         return Found::plain(t.end);
@@ -32,7 +33,7 @@ pub fn value_by(easing: Easing, t: Tween) -> Found
         return Found::plain(blend_at(t, p));
     }
     match easing.apply(Progress(p)) {
-        Eased::Value(f) => f.with_value(blend_at(t, f.value)),
-        Eased::Refused(_) => Found::plain(0.0),
+        Ok(f) => f.with_value(blend_at(t, f.value)),
+        Err(_) => Found::plain(0.0),
     }
 }

@@ -3,10 +3,9 @@ ghost use Rattle.std.specs.Prelude.{◌≡◌};
 ghost use Rattle.tween.specs.Parts.{with_ends, moved};
 ghost use Rattle.tween.specs.Calls.{first_state, woken, paused, resumed, reset_of, seek_of, reverse_of, pause_of, resume_of};
 
-use crate::answers::Changed;
 use crate::limits::within;
 use crate::record::{Tween, TweenSnapshot, TweenState, with_ends};
-use refusal::Refusal;
+use refusal::{Refusal, Rejected};
 use units::Progress;
 
 // The tween with other ends, another elapsed and another state.
@@ -67,14 +66,11 @@ fn first_state(delay: f32) -> TweenState
 
 impl Tween {
     // Back to the start of the delay.
-    pub fn reset(self) -> Changed
+    pub fn reset(self) -> Result<Tween, Rejected<Tween>>
         ensures { result ≡ reset_of self }
     {
         if !within(self) {
-            return Changed::Refused {
-                tween: self,
-                refusal: Refusal::RecordBreaksLimit,
-            };
+            return Err(Rejected::new(self, Refusal::RecordBreaksLimit));
         }
         let now = TweenSnapshot {
             elapsed: 0.0,
@@ -83,57 +79,45 @@ impl Tween {
             ping_pong_reverse: false,
             state: first_state(self.delay),
         };
-        Changed::Done(with_ends(self, self.start, self.end, now))
+        Ok(with_ends(self, self.start, self.end, now))
     }
 
     // To a place in the pass under way; t is clamped to 0..1. Refused: 1 where t is NaN.
-    pub fn seek(self, t: Progress) -> Changed
+    pub fn seek(self, t: Progress) -> Result<Tween, Rejected<Tween>>
         ensures { result ≡ seek_of self t.0 }
     {
         if !within(self) {
-            return Changed::Refused {
-                tween: self,
-                refusal: Refusal::RecordBreaksLimit,
-            };
+            return Err(Rejected::new(self, Refusal::RecordBreaksLimit));
         }
         if math::is_nan(t.0) {
-            return Changed::Refused {
-                tween: self,
-                refusal: Refusal::ProgressIsNan,
-            };
+            return Err(Rejected::new(self, Refusal::ProgressIsNan));
         }
         let e = math::max_zero(math::clamp01(t.0) * self.duration);
         let state = self.state;
-        Changed::Done(moved_to(self, self.start, self.end, e, woken_state(state)))
+        Ok(moved_to(self, self.start, self.end, e, woken_state(state)))
     }
 
     // Exchanges start and end, and mirrors elapsed, so that the value stays where it is in Linear.
-    pub fn reverse(self) -> Changed
+    pub fn reverse(self) -> Result<Tween, Rejected<Tween>>
         ensures { result ≡ reverse_of self }
     {
         if !within(self) {
-            return Changed::Refused {
-                tween: self,
-                refusal: Refusal::RecordBreaksLimit,
-            };
+            return Err(Rejected::new(self, Refusal::RecordBreaksLimit));
         }
         let e = math::clamp(self.duration - self.elapsed, 0.0, self.duration);
         let state = self.state;
-        Changed::Done(moved_to(self, self.end, self.start, e, woken_state(state)))
+        Ok(moved_to(self, self.end, self.start, e, woken_state(state)))
     }
 
     // Acts on a Running tween alone: a pause within the delay does nothing.
-    pub fn pause(self) -> Changed
+    pub fn pause(self) -> Result<Tween, Rejected<Tween>>
         ensures { result ≡ pause_of self }
     {
         if !within(self) {
-            return Changed::Refused {
-                tween: self,
-                refusal: Refusal::RecordBreaksLimit,
-            };
+            return Err(Rejected::new(self, Refusal::RecordBreaksLimit));
         }
         let state = self.state;
-        Changed::Done(moved_to(
+        Ok(moved_to(
             self,
             self.start,
             self.end,
@@ -143,17 +127,14 @@ impl Tween {
     }
 
     // Acts on a Paused tween alone.
-    pub fn resume(self) -> Changed
+    pub fn resume(self) -> Result<Tween, Rejected<Tween>>
         ensures { result ≡ resume_of self }
     {
         if !within(self) {
-            return Changed::Refused {
-                tween: self,
-                refusal: Refusal::RecordBreaksLimit,
-            };
+            return Err(Rejected::new(self, Refusal::RecordBreaksLimit));
         }
         let state = self.state;
-        Changed::Done(moved_to(
+        Ok(moved_to(
             self,
             self.start,
             self.end,

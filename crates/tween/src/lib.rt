@@ -10,7 +10,7 @@ mod record;
 mod step;
 mod update;
 
-pub use answers::{Changed, Snapped, Updated};
+pub use answers::Updated;
 pub use beside::value_by;
 pub use limits::within;
 pub use read::value_in;

@@ -3,14 +3,13 @@ ghost use Rattle.std.specs.Prelude.{◌≡◌, true};
 ghost use Rattle.tween.specs.Limits.{within_of};
 ghost use Rattle.tween.specs.Calls.{progress_in, blend_in, lasts, progress_of, eased_progress_of, value_of, snapshot_of, playback_duration_of};
 
-use crate::answers::Snapped;
+use crate::beside::blend_at;
 use crate::limits::within;
 use crate::record::{Tween, TweenSnapshot};
 use bezier::Found;
-use easing::Eased;
 use loop_mode::{Loop, passes};
 use refusal::Refusal;
-use units::{InProgress, InSeconds, Progress, Seconds};
+use units::{Progress, Seconds};
 
 fn progress_in(t: Tween) -> f32
     ensures { result ≡ progress_in t }
@@ -19,18 +18,11 @@ fn progress_in(t: Tween) -> f32
 }
 
 // The blend at an eased progress, by the same search.
-fn blend_in(t: Tween, eased: Eased) -> Eased
+fn blend_in(t: Tween, eased: Result<Found, Refusal>) -> Result<Found, Refusal>
     ensures { result ≡ blend_in t eased }
 {
-    match eased {
-        Eased::Value(f) => {
-            if t.ping_pong_reverse {
-                return Eased::Value(f.with_value(math::blend(t.end, t.start, f.value)));
-            }
-            Eased::Value(f.with_value(math::blend(t.start, t.end, f.value)))
-        }
-        Eased::Refused(r) => Eased::Refused(r),
-    }
+    let found = eased?;
+    Ok(found.with_value(blend_at(t, found.value)))
 }
 
 // The delay and all passes, in seconds.
@@ -47,12 +39,12 @@ fn lasts_for(looping: Loop, delay: f32, duration: f32) -> f32
 }
 
 // `value` of a tween that is known to be within its limits: an inner step, for runs of many.
-pub fn value_in(t: Tween) -> Eased
+pub fn value_in(t: Tween) -> Result<Found, Refusal>
     requires { within_of t ≡ true }
     ensures { result ≡ value_of t }
 {
     if t.duration == 0.0 {
-        return Eased::Value(Found::plain(t.end));
+        return Ok(Found::plain(t.end));
     }
     let easing = t.easing;
     blend_in(t, easing.apply(Progress(progress_in(t))))
@@ -60,41 +52,41 @@ pub fn value_in(t: Tween) -> Eased
 
 impl Tween {
     // The value at this time.
-    pub fn value(self) -> Eased
+    pub fn value(self) -> Result<Found, Refusal>
         ensures { result ≡ value_of self }
     {
         if !within(self) {
-            return Eased::Refused(Refusal::RecordBreaksLimit);
+            return Err(Refusal::RecordBreaksLimit);
         }
         value_in(self)
     }
 
     // How far along in the pass under way, from 0 to 1, before the easing.
-    pub fn progress(self) -> InProgress
+    pub fn progress(self) -> Result<Progress, Refusal>
         ensures { result ≡ progress_of self }
     {
         if !within(self) {
-            return InProgress::Refused(Refusal::RecordBreaksLimit);
+            return Err(Refusal::RecordBreaksLimit);
         }
-        InProgress::Progress(Progress(progress_in(self)))
+        Ok(Progress(progress_in(self)))
     }
 
     // The same after the easing, which may leave 0 to 1.
-    pub fn eased_progress(self) -> Eased
+    pub fn eased_progress(self) -> Result<Found, Refusal>
         ensures { result ≡ eased_progress_of self }
     {
         if !within(self) {
-            return Eased::Refused(Refusal::RecordBreaksLimit);
+            return Err(Refusal::RecordBreaksLimit);
         }
         let easing = self.easing;
         easing.apply(Progress(progress_in(self)))
     }
 
-    pub fn snapshot(self) -> Snapped
+    pub fn snapshot(self) -> Result<TweenSnapshot, Refusal>
         ensures { result ≡ snapshot_of self }
     {
         if !within(self) {
-            return Snapped::Refused(Refusal::RecordBreaksLimit);
+            return Err(Refusal::RecordBreaksLimit);
         }
         let state = self.state;
         let now = TweenSnapshot {
@@ -104,17 +96,17 @@ impl Tween {
             ping_pong_reverse: self.ping_pong_reverse,
             state,
         };
-        Snapped::Snapshot(now)
+        Ok(now)
     }
 
     // The delay and all passes; infinity in the modes without an end.
-    pub fn playback_duration(self) -> InSeconds
+    pub fn playback_duration(self) -> Result<Seconds, Refusal>
         ensures { result ≡ playback_duration_of self }
     {
         if !within(self) {
-            return InSeconds::Refused(Refusal::RecordBreaksLimit);
+            return Err(Refusal::RecordBreaksLimit);
         }
         let looping = self.looping;
-        InSeconds::Seconds(Seconds(lasts_for(looping, self.delay, self.duration)))
+        Ok(Seconds(lasts_for(looping, self.delay, self.duration)))
     }
 }

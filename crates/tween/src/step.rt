@@ -8,7 +8,7 @@ ghost use Rattle.tween.specs.Inner.{finish_of};
 use crate::answers::Updated;
 use crate::record::{Tween, TweenSnapshot, TweenState, with_ends};
 use folds::{Folding, fold_all, is_due};
-use refusal::Refusal;
+use refusal::{Refusal, Rejected};
 
 fn after_folds(waited: f32, p: Folding) -> TweenSnapshot
     ensures { result ≡ after_folds waited p }
@@ -27,20 +27,20 @@ fn after_folds(waited: f32, p: Folding) -> TweenSnapshot
     }
 }
 
-fn run_to(t: Tween, waited: f32, p: Folding) -> Updated
+fn run_to(t: Tween, waited: f32, p: Folding) -> Result<Updated, Rejected<Tween>>
     ensures { result ≡ ran t waited p }
 {
     let now = after_folds(waited, p);
     let next = with_ends(t, t.start, t.end, now);
-    Updated::Ran {
+    Ok(Updated {
         tween: next,
         folds: p.folds,
         running: !p.completed,
-    }
+    })
 }
 
 // The tween runs on with delay_elapsed waited and elapsed e.
-fn advance(t: Tween, waited: f32, e: f32) -> Updated
+fn advance(t: Tween, waited: f32, e: f32) -> Result<Updated, Rejected<Tween>>
     requires { t.loop_count ≤ 16777216 }
     ensures { result ≡ advanced t waited e }
 {
@@ -59,10 +59,7 @@ fn advance(t: Tween, waited: f32, e: f32) -> Updated
     let looping = t.looping;
     let last = fold_all(looping, t.duration, first);
     if is_due(t.duration, last) {
-        return Updated::Refused {
-            tween: t,
-            refusal: Refusal::TooManyFolds,
-        };
+        return Err(Rejected::new(t, Refusal::TooManyFolds));
     }
     run_to(t, waited, last)
 }
@@ -124,20 +121,17 @@ fn begin(t: Tween, x: f32) -> Begun
     }
 }
 
-fn finish(t: Tween, begun: Begun) -> Updated
+fn finish(t: Tween, begun: Begun) -> Result<Updated, Rejected<Tween>>
     requires { t.loop_count ≤ 16777216 }
     ensures { result ≡ finish_of t begun }
 {
     match begun {
-        Begun::Still(running) => Updated::Ran {
+        Begun::Still(running) => Ok(Updated {
             tween: t,
             folds: 0,
             running,
-        },
-        Begun::Lost => Updated::Refused {
-            tween: t,
-            refusal: Refusal::StepLost,
-        },
+        }),
+        Begun::Lost => Err(Rejected::new(t, Refusal::StepLost)),
         Begun::Waits(waited) => {
             let now = TweenSnapshot {
                 elapsed: t.elapsed,
@@ -147,26 +141,23 @@ fn finish(t: Tween, begun: Begun) -> Updated
                 state: TweenState::Idle,
             };
             let next = with_ends(t, t.start, t.end, now);
-            Updated::Ran {
+            Ok(Updated {
                 tween: next,
                 folds: 0,
                 running: true,
-            }
+            })
         }
         Begun::Runs { waited, elapsed } => advance(t, waited, elapsed),
     }
 }
 
 // `update` of a tween that is known to be within its limits: an inner step, for runs of many.
-pub fn step_on(t: Tween, step: f32) -> Updated
+pub fn step_on(t: Tween, step: f32) -> Result<Updated, Rejected<Tween>>
     requires { within_of t ≡ true }
     ensures { result ≡ update_of t step }
 {
     if step > 16777216.0 {
-        return Updated::Refused {
-            tween: t,
-            refusal: Refusal::StepTooLong,
-        };
+        return Err(Rejected::new(t, Refusal::StepTooLong));
     }
     finish(t, begin(t, math::max_zero(step)))
 }

@@ -10,23 +10,23 @@ use crate::limits::within;
 use crate::record::{Tween, TweenState};
 use crate::step::{Begun, run, step_on};
 use folds::{Folding, fold_once, is_due};
-use refusal::Refusal;
+use refusal::{Refusal, Rejected};
 
 // What the step changes, so that a caller can set it in place: delay_elapsed, and what folding
-// changes. Unsure says nothing: `step_on` answers every step.
+// changes.
 #[derive(Clone, Copy)]
-pub enum Glided {
-    To { waited: f32, folding: Folding },
-    Unsure,
+pub struct Glided {
+    pub waited: f32,
+    pub folding: Folding,
 }
 
-// `advance` where the tween runs on with one fold at most; else Unsure.
-fn slide(t: Tween, waited: f32, e: f32) -> Glided
+// `advance` where the tween runs on with one fold at most; else None.
+fn slide(t: Tween, waited: f32, e: f32) -> Option<Glided>
     requires { t.loop_count ≤ 16777216 }
     ensures { Slides t waited e result }
 {
     if t.duration == 0.0 {
-        return Glided::Unsure;
+        return None;
     }
     let first = Folding {
         elapsed: e,
@@ -36,71 +36,68 @@ fn slide(t: Tween, waited: f32, e: f32) -> Glided
         folds: 0,
     };
     if !is_due(t.duration, first) {
-        return Glided::To {
+        return Some(Glided {
             waited,
             folding: first,
-        };
+        });
     }
     let looping = t.looping;
     let once = fold_once(looping, t.duration, first);
     if once.completed {
-        return Glided::Unsure;
+        return None;
     }
     if is_due(t.duration, once) {
-        return Glided::Unsure;
+        return None;
     }
     if once.loop_count > 16777216 {
-        return Glided::Unsure;
+        return None;
     }
-    Glided::To {
+    Some(Glided {
         waited,
         folding: once,
-    }
+    })
 }
 
-// An inner step, for runs of many.
-pub fn glide(t: Tween, step: f32) -> Glided
+// An inner step, for runs of many. None says nothing: `step_on` answers every step.
+pub fn glide(t: Tween, step: f32) -> Option<Glided>
     requires { within_of t ≡ true }
     ensures { Glides t step result }
 {
     let state = t.state;
     let TweenState::Running = state else {
-        return Glided::Unsure;
+        return None;
     };
     if step > 16777216.0 {
-        return Glided::Unsure;
+        return None;
     }
     let Begun::Runs { waited, elapsed } = run(t, math::max_zero(step)) else {
-        return Glided::Unsure;
+        return None;
     };
     slide(t, waited, elapsed)
 }
 
 impl Tween {
     // Moves on by step seconds. Refused: 4, 5 for a step above 16,777,216, 6 for a step that is lost, 7 for one that needs more than 4,096 folds.
-    pub fn update(self, step: f32) -> Updated
+    pub fn update(self, step: f32) -> Result<Updated, Rejected<Tween>>
         ensures { result ≡ update_of self step }
     {
         if !within(self) {
-            return Updated::Refused {
-                tween: self,
-                refusal: Refusal::RecordBreaksLimit,
-            };
+            return Err(Rejected::new(self, Refusal::RecordBreaksLimit));
         }
         match glide(self, step) {
-            Glided::To { waited, folding } => {
+            Some(Glided { waited, folding }) => {
                 let mut t = self;
                 t.elapsed = folding.elapsed;
                 t.delay_elapsed = waited;
                 t.loop_count = folding.loop_count;
                 t.ping_pong_reverse = folding.ping_pong_reverse;
-                Updated::Ran {
+                Ok(Updated {
                     tween: t,
                     folds: folding.folds,
                     running: true,
-                }
+                })
             }
-            Glided::Unsure => step_on(self, step),
+            None => step_on(self, step),
         }
     }
 }

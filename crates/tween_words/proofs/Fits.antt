@@ -1,4 +1,5 @@
 -- Words that pass the tests of their patterns are a tween within its limits. Assumes nothing.
+use Rattle.std.specs.Prelude.{Some}
 use Prim.Native.Nat.{ℕ, zero, suc, ◌%◌, ◌≤◌}
 use native.Mathlib.Omega.{arith}
 use mathlib.Core.Path.{◌≡◌, refl}
@@ -14,9 +15,6 @@ use Rattle.tween.specs.declared.record.Tween.{Tween}
 use Rattle.tween.specs.declared.record.TweenState.{TweenState}
 use Rattle.tween.specs.declared.record.TweenState.TheVariants.{Idle, Running, Paused, Completed}
 use Rattle.tween.specs.Limits.{idle_below, settings_within, clock_within, within_of}
-use Rattle.words.specs.declared.modes.LoopRead.TheVariants as mode
-use Rattle.words.specs.declared.modes.StateRead.TheVariants as state
-use Rattle.words.specs.declared.tweens.TweenRead.TheVariants.{Known}
 use Rattle.words.specs.Kinds.{easing_from}
 use Rattle.words.specs.Modes.{loop_from, state_from}
 use Rattle.words.specs.Tracks.{easing_in, loop_in}
@@ -108,7 +106,7 @@ read_in ws =
       ping_pong_reverse = not (eqb (word_at ws 17) 0);
     }
 
-known-mode : (m p : ℕ) → m ≤ 4 → loop_from (record { mode = m; passes = p }) ≡ mode.Known (loop_in (loop_from (record { mode = m; passes = p })))
+known-mode : (m p : ℕ) → m ≤ 4 → loop_from (record { mode = m; passes = p }) ≡ Some (loop_in (loop_from (record { mode = m; passes = p })))
 unfolding loop_from
 known-mode zero p h = refl
 known-mode (suc zero) p h = refl
@@ -126,7 +124,7 @@ mode-fits (suc (suc (suc zero))) p h l = refl
 mode-fits (suc (suc (suc (suc zero)))) p h l = le-leb p 65535 l
 mode-fits (suc (suc (suc (suc (suc m))))) p h l = absurd (omega (arith, h))
 
-known-state : (n : ℕ) → n ≤ 3 → state_from n ≡ state.Known (state_at n)
+known-state : (n : ℕ) → n ≤ 3 → state_from n ≡ Some (state_at n)
 unfolding state_from
 known-state zero h = refl
 known-state (suc zero) h = refl
@@ -134,7 +132,7 @@ known-state (suc (suc zero)) h = refl
 known-state (suc (suc (suc zero))) h = refl
 known-state (suc (suc (suc (suc n)))) h = absurd (omega (arith, h))
 
-pub reads : (ws : List ℕ) → Fit ws → tween_from (tween_in ws) ≡ Known (read_in ws)
+pub reads : (ws : List ℕ) → Fit ws → tween_from (tween_in ws) ≡ Some (read_in ws)
 unfolding tween_from tween_in
 reads ws f = rw (f.easing.known, known-mode (word_at ws 11) (word_at ws 12) f.mode, known-state (word_at ws 15) f.state) refl
 

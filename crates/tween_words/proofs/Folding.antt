@@ -1,4 +1,5 @@
 -- One fold: what it makes of the count and the direction, and of the elapsed. Assumes nothing.
+use Rattle.std.specs.Prelude.{None, Some}
 use Prim.Native.Nat.{ℕ, zero, suc, ◌+◌, ◌%◌, ◌≤◌}
 use native.Mathlib.Omega.{arith}
 use mathlib.Core.Path.{◌≡◌, refl}
@@ -13,7 +14,6 @@ use Rattle.loop_mode.specs.declared.Loop.TheVariants.{Once, Times, Forever, Ping
 use Rattle.loop_mode.specs.Passes.{passes_of}
 use Rattle.folds.specs.declared.Folding.{Folding}
 use Rattle.folds.specs.Folds.{completes, goes_on, fold_once}
-use Rattle.words.specs.declared.modes.LoopRead.TheVariants as mode
 use Rattle.words.specs.Modes.{loop_from, flag_word}
 use Rattle.words.specs.Tracks.{loop_in}
 use Rattle.tween_words.specs.Stepping.{turn_from, turn_of}
@@ -101,6 +101,6 @@ pub else-once : (m p : ℕ) → (m ≡ 1 → ⊥) → (m ≡ 2 → ⊥) → (m �
 unfolding loop_from
 else-once m p a b c d = rw (ne_eqb m 1 a, ne_eqb m 2 b, ne_eqb m 3 c, ne_eqb m 4 d) (go (eqb m 0))
   where
-    go : (x : Bool) → loop_in (cond x (mode.Known Once) mode.Unknown) ≡ Once
+    go : (x : Bool) → loop_in (cond x (Some Once) None) ≡ Once
     go true = refl
     go false = refl

@@ -1,13 +1,11 @@
 -- What the common way of an update says.
-use Rattle.std.specs.Prelude.{ℕ, ◌≡◌, Bool, true, false, not, List, eqb, Float, set}
+use Rattle.std.specs.Prelude.{ℕ, ◌≡◌, Bool, true, false, not, List, eqb, Float, set, None, Option, Some}
 use Rattle.math.specs.Rounded.{zero_f}
 use Rattle.loop_mode.specs.declared.Loop.{Loop}
 use Rattle.folds.specs.declared.Folding.{Folding}
 use Rattle.folds.specs.Folds.{fold_once}
 use Rattle.tween.specs.declared.record.Tween.{Tween}
-use Rattle.tween.specs.declared.answers.Updated.TheVariants as updated
 use Rattle.tween.specs.Update.{update_of}
-use Rattle.words.specs.declared.tweens.TweenRead.TheVariants.{Known}
 use Rattle.words.specs.Modes.{flag_word}
 use Rattle.words.specs.Tweens.{tween_from}
 use Rattle.words.specs.Lent.{word_at, tween_in, tween_into}
@@ -15,7 +13,6 @@ use Rattle.tween_words.specs.declared.stepping.Turn.{Turn}
 use Rattle.tween_words.specs.declared.stepping.Slid.{Slid}
 use Rattle.tween_words.specs.declared.stepping.Slid.TheVariants.{To, Waits, Stays, Folded, Ended, Unsure}
 use Rattle.tween_words.specs.declared.stepping.Stepped.{Stepped}
-use Rattle.tween_words.specs.declared.stepping.Stepped.TheVariants as stepped
 
 abbrev pub turn_from : Folding → Turn
 turn_from p = record { count = p.loop_count; flag = flag_word p.ping_pong_reverse; done = p.completed }
@@ -31,8 +28,8 @@ turn_of l count flag =
 pub record Steps (ws : List ℕ) (x : Float) (folds : ℕ) (running : Bool) (after : List ℕ) : Type 0 where
   pub from : Tween
   pub to : Tween
-  pub read : tween_from (tween_in ws) ≡ Known from
-  pub ran : update_of from x ≡ updated.Ran to folds running
+  pub read : tween_from (tween_in ws) ≡ Some from
+  pub ran : update_of from x ≡ RAN to folds running
   pub words : after ≡ tween_into ws to
 
 abbrev pub SlidesTo : List ℕ → Float → Slid → Type 0
@@ -44,6 +41,6 @@ SlidesTo ws x (Ended n f) = Steps ws x 1 false (set (set (set (set ws 13 (word_a
 SlidesTo ws x Unsure = Unit {0}
 
 -- these are the words afterwards
-abbrev pub StepsTo : List ℕ → Float → List ℕ → Stepped → Type 0
-StepsTo ws x after (stepped.Ran folds running) = Steps ws x folds running after
-StepsTo ws x after stepped.Unsure = after ≡ ws
+abbrev pub StepsTo : List ℕ → Float → List ℕ → Option Stepped → Type 0
+StepsTo ws x after (RAN folds running) = Steps ws x folds running after
+StepsTo ws x after None = after ≡ ws

@@ -1,12 +1,10 @@
 -- What the common way of a value says.
-use Rattle.std.specs.Prelude.{ℕ, ◌≡◌, not, cond, List, eqb, Float}
+use Rattle.std.specs.Prelude.{ℕ, ◌≡◌, not, cond, List, eqb, Float, Ok, Some}
 use Rattle.math.specs.Blend.{blend_of}
 use Rattle.bezier.specs.declared.types.Found.{Found}
 use Rattle.bezier.specs.Bezier.{plain_of}
-use Rattle.easing.specs.declared.answers.Eased.TheVariants.{Value}
 use Rattle.tween.specs.declared.record.Tween.{Tween}
 use Rattle.tween.specs.Calls.{value_of}
-use Rattle.words.specs.declared.tweens.TweenRead.TheVariants.{Known}
 use Rattle.words.specs.Tweens.{tween_from}
 use Rattle.words.specs.Lent.{word_at, float_at, tween_in}
 use Rattle.tween_words.specs.declared.valuing.Valued.{Valued}
@@ -19,8 +17,8 @@ blended ws c = cond (not (eqb (word_at ws 17) 0)) (blend_of (float_at ws 1) (flo
 -- the tween that is read has this value
 pub record Values (ws : List ℕ) (found : Found) : Type 0 where
   pub from : Tween
-  pub read : tween_from (tween_in ws) ≡ Known from
-  pub value : value_of from ≡ Value found
+  pub read : tween_from (tween_in ws) ≡ Some from
+  pub value : value_of from ≡ Ok found
 
 abbrev pub ValuesTo : List ℕ → Valued → Type 0
 ValuesTo ws (Plain v) = Values ws (plain_of v)

@@ -147,14 +147,14 @@ fn slide(w: &[u32; 18], secs: f32) -> Slid
     }
 }
 
-fn ran(folds: u32, running: bool) -> Stepped
-    ensures { result ≡ Stepped.Ran folds running }
+fn ran(folds: u32, running: bool) -> Option<Stepped>
+    ensures { result ≡ RAN folds running }
 {
-    Stepped::Ran { folds, running }
+    Some { folds, running }
 }
 
 // Unsure: no word is changed.
-pub fn step_on(w: &mut [u32; 18], secs: f32) -> Stepped
+pub fn step_on(w: &mut [u32; 18], secs: f32) -> Option<Stepped>
     ensures { StepsTo w.old secs w.new result }
 {
     match slide(w, secs) {
@@ -184,6 +184,6 @@ pub fn step_on(w: &mut [u32; 18], secs: f32) -> Stepped
             w[17] = flag;
             ran(1, false)
         }
-        Slid::Unsure => Stepped::Unsure,
+        Slid::Unsure => None,
     }
 }

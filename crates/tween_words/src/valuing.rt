@@ -5,7 +5,7 @@ ghost use Rattle.tween_words.specs.Valuing.{blended, ValuesTo};
 
 use crate::fitting::fits;
 use bezier::Found;
-use easing_words::{Drawn, Searched, draw, search};
+use easing_words::{draw, search};
 
 #[derive(Clone, Copy)]
 pub enum Valued {
@@ -42,11 +42,11 @@ pub fn value(w: &[u32; 18]) -> Valued
         return Valued::Unsure;
     }
     let u = math::clamp01(p);
-    if let Drawn::At(c) = draw(w[3], u) {
+    if let Some(c) = draw(w[3], u) {
         return Valued::Plain(blend_in(w, c));
     }
-    if let Searched::At(found) = search(w[3], w[4], w[5], w[6], w[7], u) {
-        return Valued::Searched(found.with_value(blend_in(w, found.value)));
+    if let Some(found) = search(w[3], w[4], w[5], w[6], w[7], u) {
+        return Valued::Option<Found>(found.with_value(blend_in(w, found.value)));
     }
     Valued::Unsure
 }

@@ -2,8 +2,6 @@
 // and sought by the other.
 #![tactic(auto)]
 
-use refusal::Refusal;
-
 // A time in seconds.
 #[derive(Clone, Copy)]
 pub struct Seconds(pub f32);
@@ -11,16 +9,3 @@ pub struct Seconds(pub f32);
 // How far along: 0 at the start, 1 at the end.
 #[derive(Clone, Copy)]
 pub struct Progress(pub f32);
-
-// What the calls answer that are asked for a time or a progress.
-#[derive(Clone, Copy)]
-pub enum InSeconds {
-    Seconds(Seconds),
-    Refused(Refusal),
-}
-
-#[derive(Clone, Copy)]
-pub enum InProgress {
-    Progress(Progress),
-    Refused(Refusal),
-}

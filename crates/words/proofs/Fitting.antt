@@ -1,4 +1,5 @@
 -- The kinds that have a curve and no parameters fit a frame, whatever their other words. Assumes nothing.
+use Rattle.std.specs.Prelude.{None, Some}
 use Prim.Native.Nat.{ℕ, ◌≤◌}
 use native.Mathlib.Nat.{le_trans}
 use native.Mathlib.Omega.{arith}
@@ -14,7 +15,6 @@ use Rattle.easing.specs.Params.{params, params_of, with_params, of_number, withi
 use Rattle.easing.specs.Apply.{fits_record_of}
 use Rattle.easing.proofs.Tags.{each_below}
 use Rattle.words.specs.declared.kinds.LaxEasing.{LaxEasing}
-use Rattle.words.specs.declared.kinds.EasingRead.TheVariants as kind
 use Rattle.words.specs.Kinds.{is_kind, easing_from}
 use Rattle.words.specs.Tracks.{easing_in}
 use Rattle.words.specs.Sampling.{plain_kind, easing_fits}
@@ -36,18 +36,18 @@ plain_fits w h =
     rw k (rw h at (each_below (length all_named) (λ i. not (plain_kind i) || fits_record_of (of_number i (params w.a w.b w.c w.d w.count))) refl w.kind (ltb-true w.kind (length all_named) k)))
 
 -- an easing that is read
-pub known-fits : (w : LaxEasing) (e : Easing) → easing_from w ≡ kind.Known e → fits_record_of e ≡ easing_fits w
+pub known-fits : (w : LaxEasing) (e : Easing) → easing_from w ≡ Some e → fits_record_of e ≡ easing_fits w
 unfolding easing_fits easing_from
 known-fits w e h = go (is_kind w.kind) _ h
   where
-    go : (b : Bool) (x : Easing) → cond b (kind.Known x) kind.Unknown ≡ kind.Known e → fits_record_of e ≡ b && fits_record_of (easing_in (cond b (kind.Known x) kind.Unknown))
+    go : (b : Bool) (x : Easing) → cond b (Some x) None ≡ Some e → fits_record_of e ≡ b && fits_record_of (easing_in (cond b (Some x) None))
     go true x h = let s : e ≡ x = cc in rw s
     go false x h = let z : ◌≡◌ {A = ℕ} 0 1 = cc in absurd (omega arith)
 
-pub unknown-fits : (w : LaxEasing) → easing_from w ≡ kind.Unknown → false ≡ easing_fits w
+pub unknown-fits : (w : LaxEasing) → easing_from w ≡ None → false ≡ easing_fits w
 unfolding easing_fits easing_from
 unknown-fits w h = go (is_kind w.kind) _ h
   where
-    go : (b : Bool) (x : Easing) → cond b (kind.Known x) kind.Unknown ≡ kind.Unknown → false ≡ b && fits_record_of (easing_in (cond b (kind.Known x) kind.Unknown))
+    go : (b : Bool) (x : Easing) → cond b (Some x) None ≡ None → false ≡ b && fits_record_of (easing_in (cond b (Some x) None))
     go true x h = let z : ◌≡◌ {A = ℕ} 0 1 = cc in absurd (omega arith)
     go false x h = refl

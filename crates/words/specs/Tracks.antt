@@ -1,5 +1,5 @@
 -- A track as words, for the C interface.
-use Rattle.std.specs.Prelude.{ℕ, Bool, true, not, cond, ◌&&◌, List, [], ◌∷◌, ◌++◌, map, ltb, eqb, take, drop, replicate, Float}
+use Rattle.std.specs.Prelude.{ℕ, Bool, true, not, cond, ◌&&◌, List, [], ◌∷◌, ◌++◌, map, ltb, eqb, take, drop, replicate, Float, None, Option, Some}
 use Rattle.easing.specs.declared.kinds.Easing.{Easing}
 use Rattle.easing.specs.declared.kinds.Easing.TheVariants.{Linear}
 use Rattle.loop_mode.specs.declared.Loop.{Loop}
@@ -8,14 +8,8 @@ use Rattle.frames.specs.declared.frame.Keyframe.{Keyframe}
 use Rattle.frames.specs.Limits.{frame_of, blank}
 use Rattle.keyframe.specs.declared.types.Track.{Track}
 use Rattle.words.specs.declared.kinds.LaxEasing.{LaxEasing}
-use Rattle.words.specs.declared.kinds.EasingRead.{EasingRead}
-use Rattle.words.specs.declared.kinds.EasingRead.TheVariants as kind
-use Rattle.words.specs.declared.modes.LoopRead.{LoopRead}
-use Rattle.words.specs.declared.modes.LoopRead.TheVariants as mode
 use Rattle.words.specs.declared.tracks.LaxKeyframe.{LaxKeyframe}
 use Rattle.words.specs.declared.tracks.LaxTrack.{LaxTrack}
-use Rattle.words.specs.declared.tracks.FrameRead.{FrameRead}
-use Rattle.words.specs.declared.tracks.FrameRead.TheVariants.{Known, Unknown}
 use Rattle.words.specs.Kinds.{is_kind, easing_from, easing_words}
 use Rattle.words.specs.Modes.{is_mode, loop_from, loop_words, flag_word}
 
@@ -37,20 +31,20 @@ unfoldable pub known_track : LaxTrack → Bool
 known_track w = known_kinds (take (places_in w.count) w.frames) && is_mode w.looping.mode
 
 -- a kind that is none reads as Linear, a mode that is none as Once; `known_track` is asked first
-abbrev pub easing_in : EasingRead → Easing
-easing_in (kind.Known e) = e
-easing_in kind.Unknown = Linear
+abbrev pub easing_in : Option Easing → Easing
+easing_in (Some e) = e
+easing_in None = Linear
 
-abbrev pub loop_in : LoopRead → Loop
-loop_in (mode.Known l) = l
-loop_in mode.Unknown = Once
+abbrev pub loop_in : Option Loop → Loop
+loop_in (Some l) = l
+loop_in None = Once
 
 unfoldable pub frame_from : LaxKeyframe → Keyframe
 frame_from w = frame_of w.time w.value (easing_in (easing_from w.easing))
 
 -- one frame alone: Unknown where its kind is none
-unfoldable pub frame_read : LaxKeyframe → FrameRead
-frame_read w = cond (is_kind w.easing.kind) (Known (frame_from w)) Unknown
+unfoldable pub frame_read : LaxKeyframe → Option Keyframe
+frame_read w = cond (is_kind w.easing.kind) (Some (frame_from w)) None
 
 -- 64 places without a frame
 abbrev pub blanks : List Keyframe

@@ -1,22 +1,17 @@
 -- A tween as words, for the C interface.
-use Rattle.std.specs.Prelude.{not, eqb}
+use Rattle.std.specs.Prelude.{not, eqb, None, Option, Some}
 use Rattle.tween.specs.declared.record.Tween.{Tween}
-use Rattle.words.specs.declared.kinds.EasingRead.{EasingRead}
-use Rattle.words.specs.declared.kinds.EasingRead.TheVariants as kind
-use Rattle.words.specs.declared.modes.LoopRead.{LoopRead}
-use Rattle.words.specs.declared.modes.LoopRead.TheVariants as mode
-use Rattle.words.specs.declared.modes.StateRead.{StateRead}
-use Rattle.words.specs.declared.modes.StateRead.TheVariants as state
 use Rattle.words.specs.declared.tweens.LaxTween.{LaxTween}
-use Rattle.words.specs.declared.tweens.TweenRead.{TweenRead}
-use Rattle.words.specs.declared.tweens.TweenRead.TheVariants.{Known, Unknown}
 use Rattle.words.specs.Kinds.{easing_from, easing_words}
 use Rattle.words.specs.Modes.{loop_from, loop_words, state_from, state_word, flag_word}
+use Rattle.easing.specs.declared.kinds.Easing.{Easing}
+use Rattle.loop_mode.specs.declared.Loop.{Loop}
+use Rattle.tween.specs.declared.record.TweenState.{TweenState}
 
 -- Unknown where a word is no kind, no mode or no state
-abbrev pub tween_of_parts : LaxTween → EasingRead → LoopRead → StateRead → TweenRead
-tween_of_parts w (kind.Known e) (mode.Known l) (state.Known s) =
-    Known
+abbrev pub tween_of_parts : LaxTween → Option Easing → Option Loop → Option TweenState → Option Tween
+tween_of_parts w (Some e) (Some l) (Some s) =
+    Some
     (record {
       start = w.start;
       end = w.end;
@@ -31,11 +26,11 @@ tween_of_parts w (kind.Known e) (mode.Known l) (state.Known s) =
       loop_count = w.loop_count;
       ping_pong_reverse = not (eqb w.ping_pong_reverse 0);
     })
-tween_of_parts w (kind.Known e) (mode.Known l) state.Unknown = Unknown
-tween_of_parts w (kind.Known e) mode.Unknown s = Unknown
-tween_of_parts w kind.Unknown l s = Unknown
+tween_of_parts w (Some e) (Some l) None = None
+tween_of_parts w (Some e) None s = None
+tween_of_parts w None l s = None
 
-unfoldable pub tween_from : LaxTween → TweenRead
+unfoldable pub tween_from : LaxTween → Option Tween
 tween_from w = tween_of_parts w (easing_from w.easing) (loop_from w.looping) (state_from w.state)
 
 unfoldable pub tween_words : Tween → LaxTween

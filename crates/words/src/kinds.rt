@@ -33,14 +33,14 @@ pub fn is_kind(kind: u32) -> bool
     kind < KINDS
 }
 
-pub fn easing_of(w: LaxEasing) -> EasingRead
+pub fn easing_of(w: LaxEasing) -> Option<Easing>
     ensures { result ≡ easing_from w }
 {
     if is_kind(w.kind) {
         let p = Params::new(w.a, w.b, w.c, w.d, w.count);
-        return EasingRead::Known(Easing::of_number(w.kind, p));
+        return Some(Easing::of_number(w.kind, p));
     }
-    EasingRead::Unknown
+    None
 }
 
 pub fn easing_words(e: Easing) -> LaxEasing

@@ -8,12 +8,9 @@ mod sampling;
 mod tracks;
 mod tweens;
 
-pub use kinds::{EasingRead, LaxEasing, UNKNOWN_WORD, easing_of, easing_words, is_kind};
+pub use kinds::{LaxEasing, UNKNOWN_WORD, easing_of, easing_words, is_kind};
 pub use lent::{easing_in, frame_in, loop_in, store_tween, tween_in};
-pub use modes::{LaxLoop, LoopRead, flag_word, loop_of, state_word};
+pub use modes::{LaxLoop, flag_word, loop_of, state_word};
 pub use sampling::{eased, easing_fits, is_plain};
-pub use tracks::{
-    FrameRead, LaxKeyframe, LaxTrack, frame_of, frame_words, is_known, mode_of, places, read_frame,
-    track_of, track_words,
-};
-pub use tweens::{LaxTween, TweenRead, tween_of, tween_words};
+pub use tracks::{LaxKeyframe, LaxTrack, frame_of, frame_words, is_known, mode_of, places, read_frame, track_of, track_words};
+pub use tweens::{LaxTween, tween_of, tween_words};

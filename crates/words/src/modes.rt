@@ -26,17 +26,17 @@ pub enum StateRead {
     Unknown,
 }
 
-pub fn loop_of(w: LaxLoop) -> LoopRead
+pub fn loop_of(w: LaxLoop) -> Option<Loop>
     ensures { result ≡ loop_from w }
 {
     let mode = w.mode;
     match mode {
-        0 => LoopRead::Known(Loop::Once),
-        1 => LoopRead::Known(Loop::Times(w.passes)),
-        2 => LoopRead::Known(Loop::Forever),
-        3 => LoopRead::Known(Loop::PingPong),
-        4 => LoopRead::Known(Loop::PingPongTimes(w.passes)),
-        _ => LoopRead::Unknown,
+        0 => Some(Loop::Once),
+        1 => Some(Loop::Times(w.passes)),
+        2 => Some(Loop::Forever),
+        3 => Some(Loop::PingPong),
+        4 => Some(Loop::PingPongTimes(w.passes)),
+        _ => None,
     }
 }
 
@@ -53,15 +53,15 @@ pub fn loop_words(l: Loop) -> LaxLoop
 }
 
 // 0 Idle, 1 Running, 2 Paused, 3 Completed.
-pub fn state_of(w: u32) -> StateRead
+pub fn state_of(w: u32) -> Option<TweenState>
     ensures { result ≡ state_from w }
 {
     match w {
-        0 => StateRead::Known(TweenState::Idle),
-        1 => StateRead::Known(TweenState::Running),
-        2 => StateRead::Known(TweenState::Paused),
-        3 => StateRead::Known(TweenState::Completed),
-        _ => StateRead::Unknown,
+        0 => Some(TweenState::Idle),
+        1 => Some(TweenState::Running),
+        2 => Some(TweenState::Paused),
+        3 => Some(TweenState::Completed),
+        _ => None,
     }
 }
 

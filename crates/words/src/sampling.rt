@@ -5,7 +5,7 @@ ghost use Rattle.words.specs.Tracks.{easing_in};
 ghost use Rattle.words.specs.Sampling.{plain_kind, easing_fits};
 ghost use Rattle.frames.specs.Sampling.{eased_of};
 
-use crate::kinds::{EasingRead, LaxEasing, easing_of};
+use crate::kinds::{LaxEasing, easing_of};
 use bezier::Found;
 use easing::Easing;
 
@@ -24,8 +24,8 @@ pub fn easing_fits(w: LaxEasing) -> bool
         return true;
     }
     match easing_of(w) {
-        EasingRead::Known(e) => e.fits_record(),
-        EasingRead::Unknown => false,
+        Some(e) => e.fits_record(),
+        None => false,
     }
 }
 
@@ -33,7 +33,7 @@ pub fn eased(w: LaxEasing, p: f32) -> Found
     ensures { result ≡ eased_of (easing_in (easing_from w)) p }
 {
     match easing_of(w) {
-        EasingRead::Known(e) => frames::eased(e, p),
-        EasingRead::Unknown => frames::eased(Easing::Linear, p),
+        Some(e) => frames::eased(e, p),
+        None => frames::eased(Easing::Linear, p),
     }
 }

@@ -3,8 +3,8 @@ ghost use Rattle.std.specs.Prelude.{◌≡◌, ◌≤◌};
 ghost use Rattle.words.specs.Modes.{loop_from};
 ghost use Rattle.words.specs.Tracks.{lax_frame, places_in, loop_in, frame_from, frame_read, frames_from, track_from, known_track, frame_words, frames_words, track_words};
 
-use crate::kinds::{EasingRead, LaxEasing, easing_of, easing_words, is_kind};
-use crate::modes::{LaxLoop, LoopRead, flag_word, loop_of, loop_words};
+use crate::kinds::{LaxEasing, easing_of, easing_words, is_kind};
+use crate::modes::{LaxLoop, flag_word, loop_of, loop_words};
 use easing::Easing;
 use frames::Keyframe;
 use keyframe::Track;
@@ -77,19 +77,19 @@ pub fn frame_of(w: LaxKeyframe) -> Keyframe
     ensures { result ≡ frame_from w }
 {
     match easing_of(w.easing) {
-        EasingRead::Known(easing) => Keyframe::new(w.time, w.value, easing),
-        EasingRead::Unknown => Keyframe::new(w.time, w.value, Easing::Linear),
+        Some(easing) => Keyframe::new(w.time, w.value, easing),
+        None => Keyframe::new(w.time, w.value, Easing::Linear),
     }
 }
 
 // One frame alone.
-pub fn read_frame(w: LaxKeyframe) -> FrameRead
+pub fn read_frame(w: LaxKeyframe) -> Option<Keyframe>
     ensures { result ≡ frame_read w }
 {
     if is_kind(w.easing.kind) {
-        return FrameRead::Known(frame_of(w));
+        return Some(frame_of(w));
     }
-    FrameRead::Unknown
+    None
 }
 
 fn frames_of(words: [LaxKeyframe; 64], count: usize) -> [Keyframe; 64]
@@ -109,8 +109,8 @@ pub fn mode_of(w: LaxLoop) -> Loop
     ensures { result ≡ loop_in (loop_from w) }
 {
     match loop_of(w) {
-        LoopRead::Known(l) => l,
-        LoopRead::Unknown => Loop::Once,
+        Some(l) => l,
+        None => Loop::Once,
     }
 }
 

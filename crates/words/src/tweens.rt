@@ -2,10 +2,8 @@
 ghost use Rattle.std.specs.Prelude.{◌≡◌};
 ghost use Rattle.words.specs.Tweens.{tween_from, tween_words};
 
-use crate::kinds::{EasingRead, LaxEasing, easing_of, easing_words};
-use crate::modes::{
-    LaxLoop, LoopRead, StateRead, flag_word, loop_of, loop_words, state_of, state_word,
-};
+use crate::kinds::{LaxEasing, easing_of, easing_words};
+use crate::modes::{LaxLoop, flag_word, loop_of, loop_words, state_of, state_word};
 use tween::Tween;
 
 #[repr(C)]
@@ -31,19 +29,19 @@ pub enum TweenRead {
     Unknown,
 }
 
-pub fn tween_of(w: LaxTween) -> TweenRead
+pub fn tween_of(w: LaxTween) -> Option<Tween>
     ensures { result ≡ tween_from w }
 {
-    let EasingRead::Known(easing) = easing_of(w.easing) else {
-        return TweenRead::Unknown;
+    let Some(easing) = easing_of(w.easing) else {
+        return None;
     };
-    let LoopRead::Known(looping) = loop_of(w.looping) else {
-        return TweenRead::Unknown;
+    let Some(looping) = loop_of(w.looping) else {
+        return None;
     };
-    let StateRead::Known(state) = state_of(w.state) else {
-        return TweenRead::Unknown;
+    let Some(state) = state_of(w.state) else {
+        return None;
     };
-    TweenRead::Known(Tween {
+    Some(Tween {
         start: w.start,
         end: w.end,
         duration: w.duration,

@@ -2,10 +2,10 @@
 use Rattle.capi.specs.Answers.{found_in}
 use Rattle.capi.proofs.answers.put_found.Goals as goal
 
-pub returns-in-Value : goal.returns-in-Value
+pub returns-in-Ok : goal.returns-in-Ok
 unfolding found_in
-returns-in-Value c = simp (c.in-Value.is, c.store_found.ensures)
+returns-in-Ok c = simp (c.in-Ok.is, c.store_found.ensures)
 
-pub returns-in-Refused : goal.returns-in-Refused
+pub returns-in-Err : goal.returns-in-Err
 unfolding found_in
-returns-in-Refused c = simp (c.in-Refused.is, c.number.ensures)
+returns-in-Err c = simp (c.in-Err.is, c.number.ensures)

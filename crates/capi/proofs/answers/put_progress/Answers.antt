@@ -2,10 +2,10 @@
 use Rattle.capi.specs.Answers.{progress_in}
 use Rattle.capi.proofs.answers.put_progress.Goals as goal
 
-pub returns-in-Progress : goal.returns-in-Progress
+pub returns-in-Ok : goal.returns-in-Ok
 unfolding progress_in
-returns-in-Progress c = simp c.in-Progress.is
+returns-in-Ok c = simp c.in-Ok.is
 
-pub returns-in-Refused : goal.returns-in-Refused
+pub returns-in-Err : goal.returns-in-Err
 unfolding progress_in
-returns-in-Refused c = simp (c.in-Refused.is, c.number.ensures)
+returns-in-Err c = simp (c.in-Err.is, c.number.ensures)

@@ -2,10 +2,10 @@
 use Rattle.capi.specs.Answers.{seconds_in}
 use Rattle.capi.proofs.answers.put_seconds.Goals as goal
 
-pub returns-in-Seconds : goal.returns-in-Seconds
+pub returns-in-Ok : goal.returns-in-Ok
 unfolding seconds_in
-returns-in-Seconds c = simp c.in-Seconds.is
+returns-in-Ok c = simp c.in-Ok.is
 
-pub returns-in-Refused : goal.returns-in-Refused
+pub returns-in-Err : goal.returns-in-Err
 unfolding seconds_in
-returns-in-Refused c = simp (c.in-Refused.is, c.number.ensures)
+returns-in-Err c = simp (c.in-Err.is, c.number.ensures)

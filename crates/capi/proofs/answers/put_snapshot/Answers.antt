@@ -2,10 +2,10 @@
 use Rattle.capi.specs.Tweens.{snapshot_in}
 use Rattle.capi.proofs.answers.put_snapshot.Goals as goal
 
-pub returns-in-Snapshot : goal.returns-in-Snapshot
+pub returns-in-Ok : goal.returns-in-Ok
 unfolding snapshot_in
-returns-in-Snapshot c = simp (c.in-Snapshot.is, c.flag_word.ensures, c.state_word.ensures, c.bits.ensures, c.bits-in-Snapshot.ensures)
+returns-in-Ok c = simp (c.in-Ok.is, c.flag_word.ensures, c.state_word.ensures, c.bits.ensures, c.bits-in-Ok.ensures)
 
-pub returns-in-Refused : goal.returns-in-Refused
+pub returns-in-Err : goal.returns-in-Err
 unfolding snapshot_in
-returns-in-Refused c = simp (c.in-Refused.is, c.number.ensures)
+returns-in-Err c = simp (c.in-Err.is, c.number.ensures)

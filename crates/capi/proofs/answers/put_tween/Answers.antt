@@ -2,10 +2,10 @@
 use Rattle.capi.specs.Tweens.{changed_in}
 use Rattle.capi.proofs.answers.put_tween.Goals as goal
 
-pub returns-in-Done : goal.returns-in-Done
+pub returns-in-Ok : goal.returns-in-Ok
 unfolding changed_in
-returns-in-Done c = simp (c.in-Done.is, c.store_tween.ensures)
+returns-in-Ok c = simp (c.in-Ok.is, c.store_tween.ensures)
 
-pub returns-in-Refused : goal.returns-in-Refused
+pub returns-in-Err : goal.returns-in-Err
 unfolding changed_in
-returns-in-Refused c = simp (c.in-Refused.is, c.number.ensures)
+returns-in-Err c = simp (c.in-Err.is, c.number.ensures)

@@ -17,13 +17,13 @@ pub draw-requires : goal.draw-requires
 unfolding found_in
 draw-requires c = subst⁻¹ Within c.clamp01-u.ensures (clamped _ (sym c.is_nan.ensures ∙ c.if-is_nan.false))
 
-pub returns-in-At : goal.returns-in-At
+pub returns-in-Some : goal.returns-in-Some
 unfolding found_in
-returns-in-At c = c.put_plain.ensures ∙ applied _ _ _ _ (plain-applies (easing_at c.args.e.now 0) c.args.t _ _ (sym c.in-At.is ∙ c.draw.ensures) c.clamp01-u.ensures (sym c.is_nan.ensures ∙ c.if-is_nan.false))
+returns-in-Some c = c.put_plain.ensures ∙ applied _ _ _ _ (plain-applies (easing_at c.args.e.now 0) c.args.t _ _ (sym c.in-Some.is ∙ c.draw.ensures) c.clamp01-u.ensures (sym c.is_nan.ensures ∙ c.if-is_nan.false))
 
-pub returns-in-At-search : goal.returns-in-At-search
+pub returns-in-Some-search : goal.returns-in-Some-search
 unfolding found_in
-returns-in-At-search c = c.put_found.ensures ∙ applied _ _ _ _ (bezier-applies (easing_at c.args.e.now 0) c.args.t _ _ (sym c.in-At-search.is ∙ c.search.ensures) c.clamp01-u.ensures (sym c.is_nan.ensures ∙ c.if-is_nan.false))
+returns-in-Some-search c = c.put_found.ensures ∙ applied _ _ _ _ (bezier-applies (easing_at c.args.e.now 0) c.args.t _ _ (sym c.in-Some-search.is ∙ c.search.ensures) c.clamp01-u.ensures (sym c.is_nan.ensures ∙ c.if-is_nan.false))
 
 pub returns : goal.returns
 unfolding found_in

@@ -9,12 +9,12 @@ returns-in_default c = simp (← (rw c.easing_in.ensures at c.easing_of.ensures)
 
 pub returns-in_default-easing_of : goal.returns-in_default-easing_of
 unfolding lax_easing_eq equality_in
-returns-in_default-easing_of c = simp (← (rw c.easing_in.ensures at c.easing_of.ensures), c.in-Known.is, ← (rw c.easing_in-2.ensures at c.easing_of-2.ensures), c.in_default-easing_of.is)
+returns-in_default-easing_of c = simp (← (rw c.easing_in.ensures at c.easing_of.ensures), c.in-Some.is, ← (rw c.easing_in-2.ensures at c.easing_of-2.ensures), c.in_default-easing_of.is)
 
-pub returns-in-Equal : goal.returns-in-Equal
+pub returns-in-Ok : goal.returns-in-Ok
 unfolding lax_easing_eq equality_in
-returns-in-Equal c = c.put_flag.ensures ∙ simp (← (rw c.easing_in.ensures at c.easing_of.ensures), c.in-Known.is, ← (rw c.easing_in-2.ensures at c.easing_of-2.ensures), c.in-Known-easing_of.is, ← c.eq.ensures, c.in-Equal.is)
+returns-in-Ok c = c.put_flag.ensures ∙ simp (← (rw c.easing_in.ensures at c.easing_of.ensures), c.in-Some.is, ← (rw c.easing_in-2.ensures at c.easing_of-2.ensures), c.in-Some-easing_of.is, ← c.eq.ensures, c.in-Ok.is)
 
-pub returns-in-Refused : goal.returns-in-Refused
+pub returns-in-Err : goal.returns-in-Err
 unfolding lax_easing_eq equality_in
-returns-in-Refused c = simp (← (rw c.easing_in.ensures at c.easing_of.ensures), c.in-Known.is, ← (rw c.easing_in-2.ensures at c.easing_of-2.ensures), c.in-Known-easing_of.is, ← c.eq.ensures, c.in-Refused.is, c.number.ensures)
+returns-in-Err c = simp (← (rw c.easing_in.ensures at c.easing_of.ensures), c.in-Some.is, ← (rw c.easing_in-2.ensures at c.easing_of-2.ensures), c.in-Some-easing_of.is, ← c.eq.ensures, c.in-Err.is, c.number.ensures)

@@ -3,10 +3,10 @@ use mathlib.Core.Path.{◌∙◌}
 use Rattle.capi.specs.Easings.{lax_easing_is_supplied}
 use Rattle.capi.proofs.easings.lax_easing_is_supplied.Goals as goal
 
-pub returns-in-Known : goal.returns-in-Known
+pub returns-in-Some : goal.returns-in-Some
 unfolding lax_easing_is_supplied
-returns-in-Known c = c.put_flag.ensures ∙ simp (← (rw c.easing_in.ensures at c.easing_of.ensures), c.in-Known.is, c.is_supplied.ensures)
+returns-in-Some c = c.put_flag.ensures ∙ simp (← (rw c.easing_in.ensures at c.easing_of.ensures), c.in-Some.is, c.is_supplied.ensures)
 
-pub returns-in-Unknown : goal.returns-in-Unknown
+pub returns-in-None : goal.returns-in-None
 unfolding lax_easing_is_supplied
-returns-in-Unknown c = simp (← (rw c.easing_in.ensures at c.easing_of.ensures), c.in-Unknown.is)
+returns-in-None c = simp (← (rw c.easing_in.ensures at c.easing_of.ensures), c.in-None.is)

@@ -2,10 +2,10 @@
 use Rattle.capi.specs.Logs.{length_in}
 use Rattle.capi.proofs.logs.put_length.Goals as goal
 
-pub returns-in-Written : goal.returns-in-Written
+pub returns-in-Ok : goal.returns-in-Ok
 unfolding length_in
-returns-in-Written c = simp c.in-Written.is
+returns-in-Ok c = simp c.in-Ok.is
 
-pub returns-in-Refused : goal.returns-in-Refused
+pub returns-in-Err : goal.returns-in-Err
 unfolding length_in
-returns-in-Refused c = simp (c.number.ensures, c.in-Refused.is)
+returns-in-Err c = simp (c.number.ensures, c.in-Err.is)

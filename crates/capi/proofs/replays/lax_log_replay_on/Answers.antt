@@ -10,8 +10,8 @@ returns-in_default c = rw (sym (rw c.tween_in.ensures at c.tween_of.ensures) ∙
 
 pub returns-in_default-last_of : goal.returns-in_default-last_of
 unfolding lax_replay_on
-returns-in_default-last_of c = rw (sym (rw c.tween_in.ensures at c.tween_of.ensures) ∙ c.in-Known.is, sym c.last_of.ensures ∙ c.in_default-last_of.is) refl
+returns-in_default-last_of c = rw (sym (rw c.tween_in.ensures at c.tween_of.ensures) ∙ c.in-Some.is, sym c.last_of.ensures ∙ c.in_default-last_of.is) refl
 
 pub returns : goal.returns
 unfolding lax_replay_on
-returns c = rw (sym (rw c.tween_in.ensures at c.tween_of.ensures) ∙ c.in-Known.is, sym c.last_of.ensures ∙ c.in-Known-last_of.is, ← c.within-sound.ensures) (replayed-as _ _ _ _ _ _ _ _ c.replay_on.ensures.answer c.put_replayed.ensures.number c.put_replayed.ensures.words c.put_replayed.ensures.place c.replay_on.ensures.list)
+returns c = rw (sym (rw c.tween_in.ensures at c.tween_of.ensures) ∙ c.in-Some.is, sym c.last_of.ensures ∙ c.in-Some-last_of.is, ← c.within-sound.ensures) (replayed-as _ _ _ _ _ _ _ _ c.replay_on.ensures.answer c.put_replayed.ensures.number c.put_replayed.ensures.words c.put_replayed.ensures.place c.replay_on.ensures.list)

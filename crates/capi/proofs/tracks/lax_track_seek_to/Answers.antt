@@ -6,8 +6,8 @@ use Rattle.capi.proofs.tracks.lax_track_seek_to.Goals as goal
 pub returns-then-number-ne0 : goal.returns-then-number-ne0
 returns-then-number-ne0 c = both_words _ _ _ (stopped-seek c.args.w.now _ c.check-number.ensures c.if-number-ne0.true c.args.p)
 
-pub returns-in-Refused : goal.returns-in-Refused
-returns-in-Refused c = both_words _ _ _ (rw c.number.ensures (seek-not c.args.w.now (sym c.check-number.ensures ∙ c.if-number-ne0.false) c.args.p _ (sym c.in-Refused.is ∙ c.seek_outcome.ensures)))
+pub returns-in-Err : goal.returns-in-Err
+returns-in-Err c = both_words _ _ _ (rw c.number.ensures (seek-not c.args.w.now (sym c.check-number.ensures ∙ c.if-number-ne0.false) c.args.p _ (sym c.in-Err.is ∙ c.seek_outcome.ensures)))
 
 pub seek-c-requires : goal.seek-c-requires
 seek-c-requires c = sym c.check-number.ensures ∙ c.if-number-ne0.false

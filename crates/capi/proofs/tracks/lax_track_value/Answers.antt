@@ -20,9 +20,9 @@ outcome c = rw c.count.ensures at c.sample_outcome.ensures
 pub returns-then-number-ne0 : goal.returns-then-number-ne0
 returns-then-number-ne0 c = both_words _ _ _ (stopped-now c.args.w.now _ c.check-number.ensures c.if-number-ne0.true c.args.out.now)
 
-pub returns-in-Refused : goal.returns-in-Refused
-returns-in-Refused c = let f = fine (goal.at.returns-in-Refused c).Else-number-ne0 in
-    let ws = c.args.w.now in both_words _ _ _ (rw c.number.ensures (value_not ws f (active_of (track_of ws)) c.args.out.now _ (sym c.in-Refused.is ∙ outcome (goal.at.returns-in-Refused c).After-sample_outcome) ∙ now-is ws f c.args.out.now))
+pub returns-in-Err : goal.returns-in-Err
+returns-in-Err c = let f = fine (goal.at.returns-in-Err c).Else-number-ne0 in
+    let ws = c.args.w.now in both_words _ _ _ (rw c.number.ensures (value_not ws f (active_of (track_of ws)) c.args.out.now _ (sym c.in-Err.is ∙ outcome (goal.at.returns-in-Err c).After-sample_outcome) ∙ now-is ws f c.args.out.now))
 
 pub active_time-requires : goal.active_time-requires
 active_time-requires c = fine (goal.at.active_time-requires c).Else-number-ne0

@@ -18,8 +18,8 @@ outcome c = rw c.count.ensures at c.sample_outcome.ensures
 pub returns-then-number-ne0 : goal.returns-then-number-ne0
 returns-then-number-ne0 c = both_words _ _ _ (stopped-value c.args.w.now _ c.check-number.ensures c.if-number-ne0.true c.args.secs c.args.out.now)
 
-pub returns-in-Refused : goal.returns-in-Refused
-returns-in-Refused c = both_words _ _ _ (rw c.number.ensures (value_not c.args.w.now (fine (goal.at.returns-in-Refused c).Else-number-ne0) c.args.secs c.args.out.now _ (sym c.in-Refused.is ∙ outcome (goal.at.returns-in-Refused c).After-sample_outcome)))
+pub returns-in-Err : goal.returns-in-Err
+returns-in-Err c = both_words _ _ _ (rw c.number.ensures (value_not c.args.w.now (fine (goal.at.returns-in-Err c).Else-number-ne0) c.args.secs c.args.out.now _ (sym c.in-Err.is ∙ outcome (goal.at.returns-in-Err c).After-sample_outcome)))
 
 pub value_at-requires : goal.value_at-requires
 value_at-requires c = (fine (goal.at.value_at-requires c).Else-number-ne0, sample-some _ (sym c.in_default.is ∙ outcome (goal.at.value_at-requires c).After-sample_outcome))

@@ -19,8 +19,8 @@ outcome c = rw c.count.ensures at c.fill_outcome-outcome.ensures
 pub returns-then-number-ne0 : goal.returns-then-number-ne0
 returns-then-number-ne0 c = parts _ _ _ _ (stopped-values c.args.w.now _ c.check-number.ensures c.if-number-ne0.true c.args.times.now c.args.out.now c.args.filled.now)
 
-pub returns-in-Refused : goal.returns-in-Refused
-returns-in-Refused c = parts _ _ _ _ (rw c.number.ensures (values-not c.args.w.now (fine (goal.at.returns-in-Refused c).Else-number-ne0) c.args.times.now c.args.out.now c.args.filled.now _ (sym c.in-Refused.is ∙ outcome (goal.at.returns-in-Refused c).After-fill_outcome-outcome)))
+pub returns-in-Err : goal.returns-in-Err
+returns-in-Err c = parts _ _ _ _ (rw c.number.ensures (values-not c.args.w.now (fine (goal.at.returns-in-Err c).Else-number-ne0) c.args.times.now c.args.out.now c.args.filled.now _ (sym c.in-Err.is ∙ outcome (goal.at.returns-in-Err c).After-fill_outcome-outcome)))
 
 pub fill-unsettled-requires : goal.fill-unsettled-requires
 fill-unsettled-requires c = let f = fill-fits _ _ _ (sym c.in_default.is ∙ outcome (goal.at.fill-unsettled-requires c).After-fill_outcome-outcome) in

@@ -7,21 +7,21 @@ pub returns-in_default : goal.returns-in_default
 returns-in_default c = both_words _ _ _ (push-unknown c.args.w.now c.args.row.now (sym (rw c.frame_in.ensures at c.read_frame.ensures) ∙ c.in_default.is))
 
 pub returns-then-number-ne0 : goal.returns-then-number-ne0
-returns-then-number-ne0 c = both_words _ _ _ (push-stopped c.args.w.now c.args.row.now _ (sym (rw c.frame_in.ensures at c.read_frame.ensures) ∙ c.in-Known.is) _ c.check-number.ensures c.if-number-ne0.true)
+returns-then-number-ne0 c = both_words _ _ _ (push-stopped c.args.w.now c.args.row.now _ (sym (rw c.frame_in.ensures at c.read_frame.ensures) ∙ c.in-Some.is) _ c.check-number.ensures c.if-number-ne0.true)
 
 pub push_outcome-requires : goal.push_outcome-requires
 push_outcome-requires c = sym c.check-number.ensures ∙ c.if-number-ne0.false
 
-pub returns-in-Refused : goal.returns-in-Refused
-returns-in-Refused c = both_words _ _ _ (rw c.number.ensures (push-not c.args.w.now c.args.row.now _ (sym (rw c.frame_in.ensures at c.read_frame.ensures) ∙ c.in-Known.is) (sym c.check-number.ensures ∙ c.if-number-ne0.false) _ (rw c.stored_row-stored.ensures at c.of_bits-time.ensures) _ (sym c.in-Refused.is ∙ c.push_outcome.ensures)))
+pub returns-in-Err : goal.returns-in-Err
+returns-in-Err c = both_words _ _ _ (rw c.number.ensures (push-not c.args.w.now c.args.row.now _ (sym (rw c.frame_in.ensures at c.read_frame.ensures) ∙ c.in-Some.is) (sym c.check-number.ensures ∙ c.if-number-ne0.false) _ (rw c.stored_row-stored.ensures at c.of_bits-time.ensures) _ (sym c.in-Err.is ∙ c.push_outcome.ensures)))
 
 pub put-full-requires : goal.put-full-requires
 put-full-requires c = sym c.check-number.ensures ∙ c.if-number-ne0.false
 
-pub returns-in-Refused-room_outcome : goal.returns-in-Refused-room_outcome
-returns-in-Refused-room_outcome c = let s = c.stored_row-stored.ensures in
-    both_words _ _ _ (rw c.number-in-Refused-room_outcome.ensures (push-is c.args.w.now c.args.row.now _ (sym (rw c.frame_in.ensures at c.read_frame.ensures) ∙ c.in-Known.is) (sym c.check-number.ensures ∙ c.if-number-ne0.false) _ (rw c.stored_row-stored.ensures at c.of_bits-time.ensures) (sym c.in_default-push_outcome.is ∙ c.push_outcome.ensures) _ (rw s at c.put-full.ensures.room) _ (rw s at c.put-full.ensures.words) _ (sym c.in-Refused-room_outcome.is ∙ c.room_outcome.ensures)))
+pub returns-in-Err-room_outcome : goal.returns-in-Err-room_outcome
+returns-in-Err-room_outcome c = let s = c.stored_row-stored.ensures in
+    both_words _ _ _ (rw c.number-in-Err-room_outcome.ensures (push-is c.args.w.now c.args.row.now _ (sym (rw c.frame_in.ensures at c.read_frame.ensures) ∙ c.in-Some.is) (sym c.check-number.ensures ∙ c.if-number-ne0.false) _ (rw c.stored_row-stored.ensures at c.of_bits-time.ensures) (sym c.in_default-push_outcome.is ∙ c.push_outcome.ensures) _ (rw s at c.put-full.ensures.room) _ (rw s at c.put-full.ensures.words) _ (sym c.in-Err-room_outcome.is ∙ c.room_outcome.ensures)))
 
 pub returns : goal.returns
 returns c = let s = c.stored_row-stored.ensures in
-    both_words _ _ _ (push-is c.args.w.now c.args.row.now _ (sym (rw c.frame_in.ensures at c.read_frame.ensures) ∙ c.in-Known.is) (sym c.check-number.ensures ∙ c.if-number-ne0.false) _ (rw c.stored_row-stored.ensures at c.of_bits-time.ensures) (sym c.in_default-push_outcome.is ∙ c.push_outcome.ensures) _ (rw s at c.put-full.ensures.room) _ (rw s at c.put-full.ensures.words) _ (sym c.in_default-room_outcome.is ∙ c.room_outcome.ensures))
+    both_words _ _ _ (push-is c.args.w.now c.args.row.now _ (sym (rw c.frame_in.ensures at c.read_frame.ensures) ∙ c.in-Some.is) (sym c.check-number.ensures ∙ c.if-number-ne0.false) _ (rw c.stored_row-stored.ensures at c.of_bits-time.ensures) (sym c.in_default-push_outcome.is ∙ c.push_outcome.ensures) _ (rw s at c.put-full.ensures.room) _ (rw s at c.put-full.ensures.words) _ (sym c.in_default-room_outcome.is ∙ c.room_outcome.ensures))

@@ -3,10 +3,10 @@ use mathlib.Core.Path.{◌∙◌}
 use Rattle.capi.specs.Tweens.{lax_tween_seek}
 use Rattle.capi.proofs.tweens.lax_tween_seek.Goals as goal
 
-pub returns-in-Known : goal.returns-in-Known
+pub returns-in-Some : goal.returns-in-Some
 unfolding lax_tween_seek
-returns-in-Known c = c.put_tween.ensures ∙ simp (← c.tween_in.ensures, ← c.tween_of.ensures, c.in-Known.is, c.seek.ensures)
+returns-in-Some c = c.put_tween.ensures ∙ simp (← c.tween_in.ensures, ← c.tween_of.ensures, c.in-Some.is, c.seek.ensures)
 
-pub returns-in-Unknown : goal.returns-in-Unknown
+pub returns-in-None : goal.returns-in-None
 unfolding lax_tween_seek
-returns-in-Unknown c = simp (← c.tween_in.ensures, ← c.tween_of.ensures, c.in-Unknown.is)
+returns-in-None c = simp (← c.tween_in.ensures, ← c.tween_of.ensures, c.in-None.is)

@@ -3,10 +3,10 @@ use mathlib.Core.Path.{◌∙◌}
 use Rattle.capi.specs.Tweens.{lax_tween_snapshot}
 use Rattle.capi.proofs.tweens.lax_tween_snapshot.Goals as goal
 
-pub returns-in-Known : goal.returns-in-Known
+pub returns-in-Some : goal.returns-in-Some
 unfolding lax_tween_snapshot
-returns-in-Known c = c.put_snapshot.ensures ∙ simp (← c.tween_in.ensures, ← c.tween_of.ensures, c.in-Known.is, c.snapshot.ensures)
+returns-in-Some c = c.put_snapshot.ensures ∙ simp (← c.tween_in.ensures, ← c.tween_of.ensures, c.in-Some.is, c.snapshot.ensures)
 
-pub returns-in-Unknown : goal.returns-in-Unknown
+pub returns-in-None : goal.returns-in-None
 unfolding lax_tween_snapshot
-returns-in-Unknown c = simp (← c.tween_in.ensures, ← c.tween_of.ensures, c.in-Unknown.is)
+returns-in-None c = simp (← c.tween_in.ensures, ← c.tween_of.ensures, c.in-None.is)

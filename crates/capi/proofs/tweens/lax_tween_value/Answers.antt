@@ -14,6 +14,6 @@ pub returns-in-Searched : goal.returns-in-Searched
 unfolding found_in
 returns-in-Searched c = c.put_found.ensures ∙ valued _ _ _ (subst (ValuesTo _) c.in-Searched.is c.value.ensures)
 
-pub returns-in-Unsure : goal.returns-in-Unsure
+pub returns-in-None : goal.returns-in-None
 unfolding found_in
-returns-in-Unsure c = search rules
+returns-in-None c = search rules

@@ -4,12 +4,12 @@ use Rattle.capi.proofs.tweens.update_in.Goals as goal
 
 pub returns-in-Ran : goal.returns-in-Ran
 unfolding lax_tween_update updated_in
-returns-in-Ran c = simp (← c.tween_in.ensures, ← c.tween_of.ensures, c.in-Known.is, ← c.update.ensures, c.in-Ran.is, c.flag_word.ensures, c.store_tween.ensures)
+returns-in-Ran c = simp (← c.tween_in.ensures, ← c.tween_of.ensures, c.in-Some.is, ← c.update.ensures, c.in-Ran.is, c.flag_word.ensures, c.store_tween.ensures)
 
-pub returns-in-Refused : goal.returns-in-Refused
+pub returns-in-Err : goal.returns-in-Err
 unfolding lax_tween_update updated_in
-returns-in-Refused c = simp (← c.tween_in.ensures, ← c.tween_of.ensures, c.in-Known.is, ← c.update.ensures, c.in-Refused.is, c.number.ensures)
+returns-in-Err c = simp (← c.tween_in.ensures, ← c.tween_of.ensures, c.in-Some.is, ← c.update.ensures, c.in-Err.is, c.number.ensures)
 
-pub returns-in-Unknown : goal.returns-in-Unknown
+pub returns-in-None : goal.returns-in-None
 unfolding lax_tween_update updated_in
-returns-in-Unknown c = simp (← c.tween_in.ensures, ← c.tween_of.ensures, c.in-Unknown.is)
+returns-in-None c = simp (← c.tween_in.ensures, ← c.tween_of.ensures, c.in-None.is)

@@ -3,10 +3,10 @@ use mathlib.Core.Path.{◌∙◌}
 use Rattle.capi.specs.Tweens.{lax_tween_value}
 use Rattle.capi.proofs.tweens.value_in.Goals as goal
 
-pub returns-in-Known : goal.returns-in-Known
+pub returns-in-Some : goal.returns-in-Some
 unfolding lax_tween_value
-returns-in-Known c = c.put_found.ensures ∙ simp (← c.tween_in.ensures, ← c.tween_of.ensures, c.in-Known.is, c.value.ensures)
+returns-in-Some c = c.put_found.ensures ∙ simp (← c.tween_in.ensures, ← c.tween_of.ensures, c.in-Some.is, c.value.ensures)
 
-pub returns-in-Unknown : goal.returns-in-Unknown
+pub returns-in-None : goal.returns-in-None
 unfolding lax_tween_value
-returns-in-Unknown c = simp (← c.tween_in.ensures, ← c.tween_of.ensures, c.in-Unknown.is)
+returns-in-None c = simp (← c.tween_in.ensures, ← c.tween_of.ensures, c.in-None.is)

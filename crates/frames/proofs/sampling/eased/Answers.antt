@@ -4,10 +4,10 @@ use lib.Ieee.{of_bits}
 use Rattle.frames.specs.Sampling.{found_in}
 use Rattle.frames.proofs.sampling.eased.Goals as goal
 
-pub returns-in-Value : goal.returns-in-Value
+pub returns-in-Ok : goal.returns-in-Ok
 unfolding of_bits
-returns-in-Value c = ap found_in (sym c.in-Value.is ∙ c.apply.ensures)
+returns-in-Ok c = ap found_in (sym c.in-Ok.is ∙ c.apply.ensures)
 
-pub returns-in-Refused : goal.returns-in-Refused
+pub returns-in-Err : goal.returns-in-Err
 unfolding of_bits
-returns-in-Refused c = c.plain.ensures ∙ ap found_in (sym c.in-Refused.is ∙ c.apply.ensures)
+returns-in-Err c = c.plain.ensures ∙ ap found_in (sym c.in-Err.is ∙ c.apply.ensures)

@@ -5,12 +5,12 @@ use Rattle.keyframe.proofs.playback.playback.Goals as goal
 
 pub returns-then-base : goal.returns-then-base
 unfolding of_bits
-returns-then-base c = rw (c.in-Never.is, c.if-base.true)
+returns-then-base c = rw (c.in-None.is, c.if-base.true)
 
-pub returns-in-At : goal.returns-in-At
+pub returns-in-Some : goal.returns-in-Some
 unfolding of_bits
-returns-in-At c = search rules
+returns-in-Some c = search rules
 
 pub returns-else-base : goal.returns-else-base
 unfolding of_bits
-returns-else-base c = rw (c.in-Never.is, c.if-base.false, c.infinity.ensures)
+returns-else-base c = rw (c.in-None.is, c.if-base.false, c.infinity.ensures)

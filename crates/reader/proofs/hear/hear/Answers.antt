@@ -12,8 +12,8 @@ returns-then-gap c = sym (hears-repeat _ _ (sym c.is_wrong.ensures ∙ c.if-is_w
 pub event_in-requires : goal.event_in-requires
 event_in-requires c = sym c.is_wrong.ensures ∙ c.if-is_wrong.false
 
-pub returns-in-Done : goal.returns-in-Done
-returns-in-Done c = rw (c.capped_add.ensures, c.capped_add-in-Done.ensures) (sym (hears-played _ _ (sym c.is_wrong.ensures ∙ c.if-is_wrong.false) _ _ c.number_in-number.ensures c.gap_before-gap.ensures c.if-gap.false _ _ c.event_in.ensures (sym c.in-Done.is ∙ c.play.ensures)))
+pub returns-in-Ok : goal.returns-in-Ok
+returns-in-Ok c = rw (c.capped_add.ensures, c.capped_add-in-Ok.ensures) (sym (hears-played _ _ (sym c.is_wrong.ensures ∙ c.if-is_wrong.false) _ _ c.number_in-number.ensures c.gap_before-gap.ensures c.if-gap.false _ _ c.event_in.ensures (sym c.in-Ok.is ∙ c.play.ensures)))
 
-pub returns-in-Refused : goal.returns-in-Refused
-returns-in-Refused c = sym (hears-played _ _ (sym c.is_wrong.ensures ∙ c.if-is_wrong.false) _ _ c.number_in-number.ensures c.gap_before-gap.ensures c.if-gap.false _ _ c.event_in.ensures (sym c.in-Refused.is ∙ c.play.ensures))
+pub returns-in-Err : goal.returns-in-Err
+returns-in-Err c = sym (hears-played _ _ (sym c.is_wrong.ensures ∙ c.if-is_wrong.false) _ _ c.number_in-number.ensures c.gap_before-gap.ensures c.if-gap.false _ _ c.event_in.ensures (sym c.in-Err.is ∙ c.play.ensures))

@@ -7,9 +7,9 @@ pub returns-in-Ran : goal.returns-in-Ran
 unfolding played_of
 returns-in-Ran c = rw c.in-Step.is (sym (ap by_update (sym c.update.ensures ∙ c.in-Ran.is)))
 
-pub returns-in-Refused : goal.returns-in-Refused
+pub returns-in-Err : goal.returns-in-Err
 unfolding played_of
-returns-in-Refused c = rw c.in-Step.is (sym (ap by_update (sym c.update.ensures ∙ c.in-Refused.is)))
+returns-in-Err c = rw c.in-Step.is (sym (ap by_update (sym c.update.ensures ∙ c.in-Err.is)))
 
 pub returns-in-Pause : goal.returns-in-Pause
 unfolding played_of

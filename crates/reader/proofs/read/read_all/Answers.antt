@@ -22,26 +22,26 @@ bounds-gaps-i c = place _ _ _ c.requires.0 c.requires.1 _ _ _ c.loop-i.invariant
 pub loop-i-preserved-in-To : goal.loop-i-preserved-in-To
 loop-i-preserved-in-To c = let s = subst (Skims _ _ _) c.in-To.is c.skim.ensures in (rw (c.capped_add-missing.ensures, c.capped_add-folds.ensures) (goes_on _ _ _ c.requires.0 c.requires.1 _ _ _ c.loop-i.invariant.0 _ _ c.loop-i-test.true (ap (heard_of _) (sym c.record_at-bytes.ensures) ∙ s.0 _ _)), λ _. s.1)
 
-pub offset_bounds-gaps-i-in-Goes : goal.offset_bounds-gaps-i-in-Goes
-offset_bounds-gaps-i-in-Goes c = scaled_Fits _ _ 2 (place _ _ _ c.requires.0 c.requires.1 _ _ _ c.loop-i.invariant.0 c.loop-i-test.true) (omega (arith, c.loop-i.invariant.0.gaps-long, c.well_formed.1.1.0.1))
+pub offset_bounds-gaps-i-in-Ok : goal.offset_bounds-gaps-i-in-Ok
+offset_bounds-gaps-i-in-Ok c = scaled_Fits _ _ 2 (place _ _ _ c.requires.0 c.requires.1 _ _ _ c.loop-i.invariant.0 c.loop-i-test.true) (omega (arith, c.loop-i.invariant.0.gaps-long, c.well_formed.1.1.0.1))
 
-pub bounds-gaps-i-in-Goes : goal.bounds-gaps-i-in-Goes
-bounds-gaps-i-in-Goes c = place _ _ _ c.requires.0 c.requires.1 _ _ _ c.loop-i.invariant.0 c.loop-i-test.true
+pub bounds-gaps-i-in-Ok : goal.bounds-gaps-i-in-Ok
+bounds-gaps-i-in-Ok c = place _ _ _ c.requires.0 c.requires.1 _ _ _ c.loop-i.invariant.0 c.loop-i-test.true
 
-pub overflow_add-i-in-Goes : goal.overflow_add-i-in-Goes
-overflow_add-i-in-Goes c = omega (arith, c.loop-i-test.true, c.well_formed.1.0.0)
+pub overflow_add-i-in-Ok : goal.overflow_add-i-in-Ok
+overflow_add-i-in-Ok c = omega (arith, c.loop-i-test.true, c.well_formed.1.0.0)
 
 pub loop-i-smaller : goal.loop-i-smaller
 loop-i-smaller c = omega (arith, c.loop-i-test.true)
 
 pub loop-i-preserved : goal.loop-i-preserved
-loop-i-preserved c = (goes_on _ _ _ c.requires.0 c.requires.1 _ _ _ c.loop-i.invariant.0 _ _ c.loop-i-test.true (heard-as _ _ _ _ _ _ c.record_at-bytes.ensures c.so_far-reached.ensures c.hear.ensures c.in-Goes.is), λ h. sym c.within-sure-in-Goes.ensures ∙ h)
+loop-i-preserved c = (goes_on _ _ _ c.requires.0 c.requires.1 _ _ _ c.loop-i.invariant.0 _ _ c.loop-i-test.true (heard-as _ _ _ _ _ _ c.record_at-bytes.ensures c.so_far-reached.ensures c.hear.ensures c.in-Ok.is), λ h. sym c.within-sure-in-Ok.ensures ∙ h)
 
-pub shape_of-gaps-in-Stops : goal.shape_of-gaps-in-Stops
-shape_of-gaps-in-Stops c = c.loop-i.invariant.0.gaps-long
+pub shape_of-gaps-in-Err : goal.shape_of-gaps-in-Err
+shape_of-gaps-in-Err c = c.loop-i.invariant.0.gaps-long
 
-pub returns-in-Stops : goal.returns-in-Stops
-returns-in-Stops c = let r = stops _ _ _ c.requires.0 c.requires.1 _ _ _ c.loop-i.invariant.0 _ c.loop-i-test.true (heard-as _ _ _ _ _ _ c.record_at-bytes.ensures c.so_far-reached.ensures c.hear.ensures c.in-Stops.is) in
+pub returns-in-Err : goal.returns-in-Err
+returns-in-Err c = let r = stops _ _ _ c.requires.0 c.requires.1 _ _ _ c.loop-i.invariant.0 _ c.loop-i-test.true (heard-as _ _ _ _ _ _ c.record_at-bytes.ensures c.so_far-reached.ensures c.hear.ensures c.in-Err.is) in
     record { answer = c.stopped.ensures ∙ rw c.so_far-reached.ensures r.0; list = r.1 }
 
 pub shape_of-gaps : goal.shape_of-gaps

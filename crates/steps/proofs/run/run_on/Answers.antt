@@ -34,31 +34,31 @@ bounds-folds-i c = let p = c.requires in let r = c.glide_on-stretch.ensures.1 _ 
 
 pub overflow_add-unsettled : goal.overflow_add-unsettled
 overflow_add-unsettled c = let p = c.requires in let r = c.glide_on-stretch.ensures.1 _ _ _ c.loop-i.invariant in
-    omega (arith, byte-below (not c.in-Took.found.settled) _ _ r.few-unsettled, c.if-i-steps.true, c.well_formed.1.0)
+    omega (arith, byte-below (not c.in-Ok.found.settled) _ _ r.few-unsettled, c.if-i-steps.true, c.well_formed.1.0)
 
 pub overflow_add-i : goal.overflow_add-i
 overflow_add-i c = omega (arith, c.if-i-steps.true, c.well_formed.1.0)
 
-pub loop-i-smaller-in-Took : goal.loop-i-smaller-in-Took
-loop-i-smaller-in-Took c = let p = c.requires in let r = c.glide_on-stretch.ensures.1 _ _ _ c.loop-i.invariant in
+pub loop-i-smaller-in-Ok : goal.loop-i-smaller-in-Ok
+loop-i-smaller-in-Ok c = let p = c.requires in let r = c.glide_on-stretch.ensures.1 _ _ _ c.loop-i.invariant in
     omega (arith, c.glide_on-stretch.ensures.0, c.loop-i-test.true, c.if-i-steps.true)
 
-pub loop-i-preserved-in-Took : goal.loop-i-preserved-in-Took
-loop-i-preserved-in-Took c = let p = c.requires in let r = c.glide_on-stretch.ensures.1 _ _ _ c.loop-i.invariant in
-    let e = sym c.take.ensures ∙ c.in-Took.is in
+pub loop-i-preserved-in-Ok : goal.loop-i-preserved-in-Ok
+loop-i-preserved-in-Ok c = let p = c.requires in let r = c.glide_on-stretch.ensures.1 _ _ _ c.loop-i.invariant in
+    let e = sym c.take.ensures ∙ c.in-Ok.is in
     goes_on _ _ _ _ p.1 p.2 _ _ _ _ _ r _ _ _ c.if-i-steps.true e (took-within _ _ _ _ _ e)
 
-pub shape_of-values-in-Stops : goal.shape_of-values-in-Stops
-shape_of-values-in-Stops c = let p = c.requires in let r = c.glide_on-stretch.ensures.1 _ _ _ c.loop-i.invariant in
+pub shape_of-values-in-Err : goal.shape_of-values-in-Err
+shape_of-values-in-Err c = let p = c.requires in let r = c.glide_on-stretch.ensures.1 _ _ _ c.loop-i.invariant in
     r.values-long
 
-pub shape_of-folds-in-Stops : goal.shape_of-folds-in-Stops
-shape_of-folds-in-Stops c = let p = c.requires in let r = c.glide_on-stretch.ensures.1 _ _ _ c.loop-i.invariant in
+pub shape_of-folds-in-Err : goal.shape_of-folds-in-Err
+shape_of-folds-in-Err c = let p = c.requires in let r = c.glide_on-stretch.ensures.1 _ _ _ c.loop-i.invariant in
     r.folds-long
 
-pub returns-in-Stops : goal.returns-in-Stops
-returns-in-Stops c = let p = c.requires in let r = c.glide_on-stretch.ensures.1 _ _ _ c.loop-i.invariant in
-    let q = stops _ _ _ _ p.1 p.2 _ _ _ _ _ r _ c.if-i-steps.true (sym c.take.ensures ∙ c.in-Stops.is) in
+pub returns-in-Err : goal.returns-in-Err
+returns-in-Err c = let p = c.requires in let r = c.glide_on-stretch.ensures.1 _ _ _ c.loop-i.invariant in
+    let q = stops _ _ _ _ p.1 p.2 _ _ _ _ _ r _ c.if-i-steps.true (sym c.take.ensures ∙ c.in-Err.is) in
     record { answer = c.answer.ensures ∙ q.0; value = q.1; fold = q.2 }
 
 pub loop-i-smaller : goal.loop-i-smaller

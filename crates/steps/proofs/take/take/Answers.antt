@@ -16,6 +16,6 @@ pub returns-else-tween-gt16777216 : goal.returns-else-tween-gt16777216
 unfolding step_of
 returns-else-tween-gt16777216 c = simp (← c.step_on.ensures, c.in-Ran.is, c.value_by.ensures)
 
-pub returns-in-Refused : goal.returns-in-Refused
+pub returns-in-Err : goal.returns-in-Err
 unfolding step_of
-returns-in-Refused c = simp (← c.step_on.ensures, c.in-Refused.is)
+returns-in-Err c = simp (← c.step_on.ensures, c.in-Err.is)

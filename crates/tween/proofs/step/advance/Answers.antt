@@ -9,7 +9,7 @@ returns-then-t c = simp (c.run_to.ensures, c.if-t.true)
 
 pub returns-then-is_due : goal.returns-then-is_due
 unfolding advanced folded of_bits
-returns-then-is_due c = simp (c.if-t.false, ← c.fold_all-last.ensures, ← c.is_due.ensures, c.if-is_due.true)
+returns-then-is_due c = simp (c.if-t.false, ← c.fold_all-last.ensures, ← c.is_due.ensures, c.if-is_due.true, c.new.ensures)
 
 pub returns : goal.returns
 unfolding advanced folded of_bits

@@ -5,16 +5,16 @@ use Rattle.math.specs.Rounded.{zero_f, ◌⊗◌}
 use Rattle.math.specs.Lost.{lost_by}
 use Rattle.refusal.specs.declared.Refusal.TheVariants.{StepLost}
 use Rattle.tween.specs.declared.record.Tween.{Tween}
-use Rattle.tween.specs.declared.answers.Updated.TheVariants.{Refused}
 use Rattle.tween.specs.Update.{advanced, run_of}
 use Rattle.tween.proofs.step.run.Goals as goal
+use Rattle.refusal.specs.Refusing.{rejected}
 
 -- the code's test, with the call's answer in it
 abbrev tested : Tween → Float → Bool → Bool
 tested t x b = lt zero_f x && lt zero_f t.time_scale && lt t.elapsed t.duration && b
 
 module _ (t : Tween) (x e : Float) (b : Bool) (p : b ≡ lost_by t.elapsed (x ⊗ t.time_scale) e) where
-  lost : tested t x b ≡ true → Refused t StepLost ≡ run_of t x e
+  lost : tested t x b ≡ true → rejected t StepLost ≡ run_of t x e
   unfolding run_of
   lost q = rw (subst (λ (c : Bool). tested t x c ≡ true) p q)
 

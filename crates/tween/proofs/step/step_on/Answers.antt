@@ -6,7 +6,7 @@ use Rattle.tween.proofs.step.step_on.Goals as goal
 
 pub returns-then-step : goal.returns-then-step
 unfolding update_of of_bits
-returns-then-step c = simp (c.requires, c.if-step.true)
+returns-then-step c = simp (c.requires, c.if-step.true, c.new.ensures)
 
 pub finish-requires : goal.finish-requires
 unfolding update_of of_bits

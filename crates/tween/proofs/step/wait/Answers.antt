@@ -5,18 +5,18 @@ use Rattle.math.specs.Rounded.{zero_f, ◌⊕◌, ◌⊖◌, ◌⊗◌}
 use Rattle.math.specs.Lost.{lost_by}
 use Rattle.refusal.specs.declared.Refusal.TheVariants.{StepLost}
 use Rattle.tween.specs.declared.record.Tween.{Tween}
-use Rattle.tween.specs.declared.answers.Updated.TheVariants.{Ran, Refused}
 use Rattle.tween.specs.Parts.{put}
-use Rattle.tween.specs.Update.{advanced, waiting, wait_of}
+use Rattle.tween.specs.Update.{advanced, waiting, wait_of, updated}
 use Rattle.tween.proofs.step.wait.Goals as goal
+use Rattle.refusal.specs.Refusing.{rejected}
 
 -- the code's test, with the call's answer in it
 module _ (t : Tween) (x w : Float) (b : Bool) (p : b ≡ lost_by t.delay_elapsed x w) where
-  lost : (lt zero_f x && b) ≡ true → Refused t StepLost ≡ wait_of t x w
+  lost : (lt zero_f x && b) ≡ true → rejected t StepLost ≡ wait_of t x w
   unfolding wait_of
   lost q = rw (subst (λ (c : Bool). (lt zero_f x && c) ≡ true) p q)
 
-  waits : (lt zero_f x && b) ≡ false → lt w t.delay ≡ true → Ran (put (waiting t w) t) 0 true ≡ wait_of t x w
+  waits : (lt zero_f x && b) ≡ false → lt w t.delay ≡ true → updated (put (waiting t w) t) 0 true ≡ wait_of t x w
   unfolding wait_of
   waits q d = rw (subst (λ (c : Bool). (lt zero_f x && c) ≡ false) p q, d)
 

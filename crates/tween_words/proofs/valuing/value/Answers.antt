@@ -31,11 +31,11 @@ draw-requires c = subst⁻¹ Within c.clamp01-u.ensures (clamped _ (sym c.is_nan
 pub blend_in-requires : goal.blend_in-requires
 blend_in-requires c = passes _ _ c.fits.ensures (ap not c.if-not-fits.false)
 
-pub returns-in-At : goal.returns-in-At
-returns-in-At c = rw c.blend_in.ensures (valued c.args.w.now (passes _ _ c.fits.ensures (ap not c.if-not-fits.false)) c.if-duration.false c.ratio-p.result c.ratio-p.ensures _ (plain-applies (easing_at c.args.w.now 3) c.ratio-p.result _ _ (sym c.in-At.is ∙ c.draw.ensures) c.clamp01-u.ensures (sym c.is_nan.ensures ∙ c.if-is_nan.false)).1)
+pub returns-in-Some : goal.returns-in-Some
+returns-in-Some c = rw c.blend_in.ensures (valued c.args.w.now (passes _ _ c.fits.ensures (ap not c.if-not-fits.false)) c.if-duration.false c.ratio-p.result c.ratio-p.ensures _ (plain-applies (easing_at c.args.w.now 3) c.ratio-p.result _ _ (sym c.in-Some.is ∙ c.draw.ensures) c.clamp01-u.ensures (sym c.is_nan.ensures ∙ c.if-is_nan.false)).1)
 
-pub blend_in-requires-in-At-search : goal.blend_in-requires-in-At-search
-blend_in-requires-in-At-search c = passes _ _ c.fits.ensures (ap not c.if-not-fits.false)
+pub blend_in-requires-in-Some-search : goal.blend_in-requires-in-Some-search
+blend_in-requires-in-Some-search c = passes _ _ c.fits.ensures (ap not c.if-not-fits.false)
 
-pub returns-in-At-search : goal.returns-in-At-search
-returns-in-At-search c = rw (c.with_value.ensures, c.blend_in-in-At-search.ensures) (valued c.args.w.now (passes _ _ c.fits.ensures (ap not c.if-not-fits.false)) c.if-duration.false c.ratio-p.result c.ratio-p.ensures _ (bezier-applies (easing_at c.args.w.now 3) c.ratio-p.result _ _ (sym c.in-At-search.is ∙ c.search.ensures) c.clamp01-u.ensures (sym c.is_nan.ensures ∙ c.if-is_nan.false)).1)
+pub returns-in-Some-search : goal.returns-in-Some-search
+returns-in-Some-search c = rw (c.with_value.ensures, c.blend_in-in-Some-search.ensures) (valued c.args.w.now (passes _ _ c.fits.ensures (ap not c.if-not-fits.false)) c.if-duration.false c.ratio-p.result c.ratio-p.ensures _ (bezier-applies (easing_at c.args.w.now 3) c.ratio-p.result _ _ (sym c.in-Some-search.is ∙ c.search.ensures) c.clamp01-u.ensures (sym c.is_nan.ensures ∙ c.if-is_nan.false)).1)

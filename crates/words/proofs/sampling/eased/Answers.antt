@@ -1,8 +1,8 @@
 -- `eased` meets its contract: each arm is told its answer. Assumes nothing.
 use Rattle.words.proofs.sampling.eased.Goals as goal
 
-pub returns-in-Known : goal.returns-in-Known
-returns-in-Known c = simp (← c.easing_of.ensures, c.in-Known.is, c.eased.ensures)
+pub returns-in-Some : goal.returns-in-Some
+returns-in-Some c = simp (← c.easing_of.ensures, c.in-Some.is, c.eased.ensures)
 
-pub returns-in-Unknown : goal.returns-in-Unknown
-returns-in-Unknown c = simp (← c.easing_of.ensures, c.in-Unknown.is, c.eased-in-Unknown.ensures)
+pub returns-in-None : goal.returns-in-None
+returns-in-None c = simp (← c.easing_of.ensures, c.in-None.is, c.eased-in-None.ensures)

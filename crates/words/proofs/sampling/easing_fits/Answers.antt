@@ -6,8 +6,8 @@ use Rattle.words.proofs.sampling.easing_fits.Goals as goal
 pub returns-then-is_plain : goal.returns-then-is_plain
 returns-then-is_plain c = sym (plain_fits _ (rw (← c.is_plain.ensures) c.if-is_plain.true))
 
-pub returns-in-Known : goal.returns-in-Known
-returns-in-Known c = rw c.fits_record.ensures (known-fits _ _ (rw (← c.easing_of.ensures) c.in-Known.is))
+pub returns-in-Some : goal.returns-in-Some
+returns-in-Some c = rw c.fits_record.ensures (known-fits _ _ (rw (← c.easing_of.ensures) c.in-Some.is))
 
-pub returns-in-Unknown : goal.returns-in-Unknown
-returns-in-Unknown c = unknown-fits _ (rw (← c.easing_of.ensures) c.in-Unknown.is)
+pub returns-in-None : goal.returns-in-None
+returns-in-None c = unknown-fits _ (rw (← c.easing_of.ensures) c.in-None.is)

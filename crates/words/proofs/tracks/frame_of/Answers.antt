@@ -2,10 +2,10 @@
 use Rattle.words.specs.Tracks.{frame_from}
 use Rattle.words.proofs.tracks.frame_of.Goals as goal
 
-pub returns-in-Known : goal.returns-in-Known
+pub returns-in-Some : goal.returns-in-Some
 unfolding frame_from
-returns-in-Known c = simp (c.new.ensures, ← c.easing_of.ensures, c.in-Known.is)
+returns-in-Some c = simp (c.new.ensures, ← c.easing_of.ensures, c.in-Some.is)
 
-pub returns-in-Unknown : goal.returns-in-Unknown
+pub returns-in-None : goal.returns-in-None
 unfolding frame_from
-returns-in-Unknown c = simp (c.new-in-Unknown.ensures, ← c.easing_of.ensures, c.in-Unknown.is)
+returns-in-None c = simp (c.new-in-None.ensures, ← c.easing_of.ensures, c.in-None.is)

@@ -1,4 +1,5 @@
 -- `apply` meets its contract: each arm is told its kind, at which the definition computes to what the arm's curve ensures. Assumes nothing.
+use Rattle.std.specs.Prelude.{Err, Ok, Result}
 use borrow.Author.Tests.{not-true}
 use mathlib.Core.Bool.{Bool, true, false, not}
 use mathlib.Core.Path.{◌≡◌, refl, sym, subst⁻¹, ◌∙◌, ap}
@@ -10,8 +11,6 @@ use Rattle.bezier.specs.Bezier.{plain_of}
 use Rattle.refusal.specs.declared.Refusal.TheVariants.{EasingNotSupplied}
 use Rattle.easing.specs.declared.kinds.Easing.{Easing}
 use Rattle.easing.specs.declared.params.Params.{Params}
-use Rattle.easing.specs.declared.answers.Eased.{Eased}
-use Rattle.easing.specs.declared.answers.Eased.TheVariants.{Value, Refused}
 use Rattle.easing.specs.Kinds.{curve_of, supplied_of}
 use Rattle.easing.specs.Params.{no_params, params_of, with_params, within_of}
 use Rattle.easing.specs.Apply.{limited_of, search_of, eased_at, apply_of}
@@ -19,6 +18,7 @@ use Rattle.easing.proofs.Tags.{twelve, by-tag}
 use Rattle.easing.proofs.Answering.{no_number, not-supplied, bare, with_params_lem}
 use Rattle.easing.proofs.kinds.Easing.apply.Goals as goal
 use Rattle.easing.proofs.kinds.Easing.apply.Goals.{After-clamp01-u}
+use Rattle.refusal.specs.declared.Refusal.{Refusal}
 
 -- once the progress is clamped: u, for a t that is no NaN
 module _ (c : After-clamp01-u) where
@@ -34,15 +34,15 @@ module _ (c : After-clamp01-u) where
   inside : Within u
   inside = subst⁻¹ Within c.clamp01-u.ensures (clamped t (sym c.is_nan.ensures ∙ c.if-is_nan.false))
 
-  none : supplied_of self ≡ false → Refused EasingNotSupplied ≡ apply_of self t
+  none : supplied_of self ≡ false → Err EasingNotSupplied ≡ apply_of self t
   none = not-supplied self t _ c.is_nan.ensures c.if-is_nan.false
 
   -- at a kind x, whose curve w the call's answer v is
   module _ (x : Easing) (e : self ≡ x) where
-    plainly : (v w : Float) (r : Eased) → v ≡ w → r ≡ Value (plain_of v) → params_of x ≡ no_params → eased_at (curve_of x) (search_of x) true u ≡ Value (plain_of w) → r ≡ apply_of self t
+    plainly : (v w : Float) (r : Result Found Refusal) → v ≡ w → r ≡ Ok (plain_of v) → params_of x ≡ no_params → eased_at (curve_of x) (search_of x) true u ≡ Ok (plain_of w) → r ≡ apply_of self t
     plainly = bare self t _ c.is_nan.ensures c.if-is_nan.false u c.clamp01-u.ensures x e
 
-    limited : (f g : Found) (p : Params) (fine : Bool) (r : Eased) → f ≡ g → p ≡ params_of x → fine ≡ within_of p → r ≡ limited_of fine f → ((fine : Bool) → eased_at (curve_of x) (search_of x) fine u ≡ limited_of fine g) → r ≡ apply_of self t
+    limited : (f g : Found) (p : Params) (fine : Bool) (r : Result Found Refusal) → f ≡ g → p ≡ params_of x → fine ≡ within_of p → r ≡ limited_of fine f → ((fine : Bool) → eased_at (curve_of x) (search_of x) fine u ≡ limited_of fine g) → r ≡ apply_of self t
     limited = with_params_lem self t _ c.is_nan.ensures c.if-is_nan.false u c.clamp01-u.ensures x e
 
 pub returns-then-is_nan : goal.returns-then-is_nan

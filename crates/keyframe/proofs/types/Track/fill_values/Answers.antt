@@ -19,12 +19,12 @@ returns-then-not-is_within_limits c =
     let q = refused c.args.self c.args.times.now c.args.out.now RecordBreaksLimit (number-broken _ _ _ (fails _ _ c.is_within_limits.ensures (ap not c.if-not-is_within_limits.true))) refl in
     record { answer = c.none_filled.ensures ∙ q.0; output = q.1 }
 
-pub returns-in-Refused : goal.returns-in-Refused
-returns-in-Refused c =
-    let r = c.in-Refused.refusal in
-    let e = sym c.in-Refused.is ∙ c.fill_outcome.ensures in
-    let q = refused c.args.self c.args.times.now c.args.out.now r (fill-by c.args.self (within (goal.at.returns-in-Refused c).Else-not-is_within_limits) c.args.times.now c.args.out.now _ e) (fill-number _ _ _ r e) in
-    record { answer = c.none_filled-in-Refused.ensures ∙ q.0; output = q.1 }
+pub returns-in-Err : goal.returns-in-Err
+returns-in-Err c =
+    let r = c.in-Err.refusal in
+    let e = sym c.in-Err.is ∙ c.fill_outcome.ensures in
+    let q = refused c.args.self c.args.times.now c.args.out.now r (fill-by c.args.self (within (goal.at.returns-in-Err c).Else-not-is_within_limits) c.args.times.now c.args.out.now _ e) (fill-number _ _ _ r e) in
+    record { answer = c.none_filled-in-Err.ensures ∙ q.0; output = q.1 }
 
 pub fill-unsettled-requires : goal.fill-unsettled-requires
 fill-unsettled-requires c = let w = within (goal.at.fill-unsettled-requires c).Else-not-is_within_limits in

@@ -1,5 +1,5 @@
 -- `looping` meets its contract, by its outcome. Assumes nothing.
-use Rattle.std.proofs.Common.{◌≡◌, true, sym, ◌∙◌}
+use Rattle.std.proofs.Common.{◌≡◌, true, sym, ◌∙◌, Err}
 use Rattle.math.proofs.Choice.{fails, passes}
 use Rattle.keyframe.specs.Limits.{within_of}
 use Rattle.keyframe.proofs.Records.{few-frames}
@@ -14,14 +14,14 @@ within : (c : Else-not-is_within_limits) → within_of c.args.self ≡ true
 within c = passes _ _ c.is_within_limits.ensures (ap not c.if-not-is_within_limits.false)
 
 pub returns-then-not-is_within_limits : goal.returns-then-not-is_within_limits
-returns-then-not-is_within_limits c = c.refuse.ensures ∙ mode-broken c.args.self c.args.mode (fails _ _ c.is_within_limits.ensures (ap not c.if-not-is_within_limits.true))
+returns-then-not-is_within_limits c = ap Err c.new.ensures ∙ mode-broken c.args.self c.args.mode (fails _ _ c.is_within_limits.ensures (ap not c.if-not-is_within_limits.true))
 
 pub last_time-requires : goal.last_time-requires
 last_time-requires c = few-frames _ (within (goal.at.last_time-requires c).Else-not-is_within_limits)
 
-pub returns-in-Refused : goal.returns-in-Refused
-returns-in-Refused c = let e = rw c.last_time.ensures at c.looping_outcome.ensures in
-    c.refuse-in-Refused.ensures ∙ looping-by c.args.self (within (goal.at.returns-in-Refused c).Else-not-is_within_limits) c.args.mode _ (sym c.in-Refused.is ∙ e)
+pub returns-in-Err : goal.returns-in-Err
+returns-in-Err c = let e = rw c.last_time.ensures at c.looping_outcome.ensures in
+    ap Err c.new-in-Err.ensures ∙ looping-by c.args.self (within (goal.at.returns-in-Err c).Else-not-is_within_limits) c.args.mode _ (sym c.in-Err.is ∙ e)
 
 pub returns : goal.returns
 returns c = let e = rw c.last_time.ensures at c.looping_outcome.ensures in

@@ -1,5 +1,5 @@
 -- `push_frame` meets its contract, by its outcome. Assumes nothing.
-use Rattle.std.proofs.Common.{◌≡◌, ◌≤◌, true, length, sym, ◌∙◌, arith, rules}
+use Rattle.std.proofs.Common.{◌≡◌, ◌≤◌, true, length, sym, ◌∙◌, arith, rules, Err}
 use lib.Ieee.{of_bits}
 use Rattle.math.proofs.Choice.{fails, passes}
 use Rattle.keyframe.specs.Limits.{base_of, within_of}
@@ -29,7 +29,7 @@ last c =
     ]
 
 pub returns-then-not-is_within_limits : goal.returns-then-not-is_within_limits
-returns-then-not-is_within_limits c = c.refuse.ensures ∙ push-broken c.args.self c.args.k (fails _ _ c.is_within_limits.ensures (ap not c.if-not-is_within_limits.true))
+returns-then-not-is_within_limits c = ap Err c.new.ensures ∙ push-broken c.args.self c.args.k (fails _ _ c.is_within_limits.ensures (ap not c.if-not-is_within_limits.true))
 
 pub offset_bounds-self-n : goal.offset_bounds-self-n
 offset_bounds-self-n c = let f = few (goal.at.offset_bounds-self-n c).After-stored-frame in search rules
@@ -37,8 +37,8 @@ offset_bounds-self-n c = let f = few (goal.at.offset_bounds-self-n c).After-stor
 pub bounds-self-n : goal.bounds-self-n
 bounds-self-n c = let f = few (goal.at.bounds-self-n c).After-stored-frame in search rules
 
-pub returns-in-Refused : goal.returns-in-Refused
-returns-in-Refused c = c.refuse-in-Refused.ensures ∙ push-by c.args.self (within (goal.at.returns-in-Refused c).Else-not-is_within_limits) c.args.k _ _ (last (goal.at.returns-in-Refused c).Joined-n-eq0) c.stored-frame.ensures _ (sym c.in-Refused.is ∙ c.push_outcome-outcome.ensures)
+pub returns-in-Err : goal.returns-in-Err
+returns-in-Err c = ap Err c.new-in-Err.ensures ∙ push-by c.args.self (within (goal.at.returns-in-Err c).Else-not-is_within_limits) c.args.k _ _ (last (goal.at.returns-in-Err c).Joined-n-eq0) c.stored-frame.ensures _ (sym c.in-Err.is ∙ c.push_outcome-outcome.ensures)
 
 pub place-requires : goal.place-requires
 place-requires c = few (goal.at.place-requires c).After-stored-frame

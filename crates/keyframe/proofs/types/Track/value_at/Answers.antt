@@ -1,5 +1,6 @@
 -- `value_at` meets its contract, by its outcome. Assumes nothing.
-use Rattle.std.proofs.Common.{◌≡◌, true, sym, ◌∙◌}
+use Rattle.std.proofs.lemmas.Result.{err_from_is_err_and}
+use Rattle.std.proofs.Common.{◌≡◌, true, sym, ◌∙◌, Err}
 use Rattle.math.proofs.Choice.{fails, passes}
 use Rattle.keyframe.specs.Limits.{within_of}
 use Rattle.keyframe.specs.Sampling.{value_at_of}
@@ -17,15 +18,15 @@ pub returns-then-not-is_within_limits : goal.returns-then-not-is_within_limits
 unfolding value_at_of
 returns-then-not-is_within_limits c = rw (fails _ _ c.is_within_limits.ensures (ap not c.if-not-is_within_limits.true))
 
-pub returns-in-Refused : goal.returns-in-Refused
+pub returns-in_err-sample_outcome : goal.returns-in_err-sample_outcome
 unfolding value_at_of
-returns-in-Refused c = sample-by c.args.self (within (goal.at.returns-in-Refused c).Else-not-is_within_limits) c.args.secs.0 _ (sym c.in-Refused.is ∙ c.sample_outcome.ensures)
+returns-in_err-sample_outcome c = let p = err_from_is_err_and c.from_residual.result c.from_residual.ensures.1 in p.1 ∙ ap Err p.2 ∙ sample-by c.args.self (within (goal.at.returns-in_err-sample_outcome c).Else-not-is_within_limits) c.args.secs.0 _ (sym c.in_err-sample_outcome.was ∙ c.sample_outcome.ensures)
 
 pub sample-requires : goal.sample-requires
 unfolding value_at_of
 sample-requires c = let w = within (goal.at.sample-requires c).Else-not-is_within_limits in
-    (frames-fine _ w, sample-some _ (sym c.in_default.is ∙ c.sample_outcome.ensures), few-frames _ w)
+    (frames-fine _ w, sample-some _ (sym c.in_ok-sample_outcome.was ∙ c.sample_outcome.ensures), few-frames _ w)
 
 pub returns : goal.returns
 unfolding value_at_of
-returns c = rw c.sample.ensures (sample-by c.args.self (within (goal.at.returns c).Else-not-is_within_limits) c.args.secs.0 _ (sym c.in_default.is ∙ c.sample_outcome.ensures))
+returns c = rw c.sample.ensures (sample-by c.args.self (within (goal.at.returns c).Else-not-is_within_limits) c.args.secs.0 _ (sym c.in_ok-sample_outcome.was ∙ c.sample_outcome.ensures))

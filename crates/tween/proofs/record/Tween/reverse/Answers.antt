@@ -8,7 +8,7 @@ use Rattle.tween.proofs.record.Tween.reverse.Goals as goal
 
 pub returns-then-not-within : goal.returns-then-not-within
 unfolding reverse_of of_bits
-returns-then-not-within c = simp (fails _ _ c.within.ensures (ap not c.if-not-within.true))
+returns-then-not-within c = simp (fails _ _ c.within.ensures (ap not c.if-not-within.true), c.new.ensures)
 
 pub returns : goal.returns
 unfolding reverse_of of_bits

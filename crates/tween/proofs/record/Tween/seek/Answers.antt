@@ -7,11 +7,11 @@ use Rattle.tween.proofs.record.Tween.seek.Goals as goal
 
 pub returns-then-not-within : goal.returns-then-not-within
 unfolding seek_of
-returns-then-not-within c = simp (fails _ _ c.within.ensures (ap not c.if-not-within.true))
+returns-then-not-within c = simp (fails _ _ c.within.ensures (ap not c.if-not-within.true), c.new.ensures)
 
 pub returns-then-is_nan : goal.returns-then-is_nan
 unfolding seek_of
-returns-then-is_nan c = simp (passes _ _ c.within.ensures (ap not c.if-not-within.false), ← c.is_nan.ensures, c.if-is_nan.true)
+returns-then-is_nan c = simp (passes _ _ c.within.ensures (ap not c.if-not-within.false), ← c.is_nan.ensures, c.if-is_nan.true, c.new-then-is_nan.ensures)
 
 pub returns : goal.returns
 unfolding seek_of

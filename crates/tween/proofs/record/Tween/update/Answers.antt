@@ -10,7 +10,7 @@ use Rattle.tween.proofs.record.Tween.update.Goals as goal
 
 pub returns-then-not-within : goal.returns-then-not-within
 unfolding update_of
-returns-then-not-within c = simp (fails _ _ c.within.ensures (ap not c.if-not-within.true))
+returns-then-not-within c = simp (fails _ _ c.within.ensures (ap not c.if-not-within.true), c.new.ensures)
 
 pub glide-requires : goal.glide-requires
 unfolding update_of
@@ -20,10 +20,10 @@ pub step_on-requires : goal.step_on-requires
 unfolding update_of
 step_on-requires c = passes _ _ c.within.ensures (ap not c.if-not-within.false)
 
-pub returns-in-To : goal.returns-in-To
+pub returns-in-Some : goal.returns-in-Some
 unfolding update_of
-returns-in-To c = sym (goes_to _ _ _ _ (subst (Glides _ _) c.in-To.is c.glide.ensures))
+returns-in-Some c = sym (goes_to _ _ _ _ (subst (Glides _ _) c.in-Some.is c.glide.ensures))
 
-pub returns-in-Unsure : goal.returns-in-Unsure
+pub returns-in-None : goal.returns-in-None
 unfolding update_of
-returns-in-Unsure c = search rules
+returns-in-None c = search rules
