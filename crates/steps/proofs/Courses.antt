@@ -21,6 +21,7 @@ use Rattle.tween.specs.Limits.{within_of}
 use Rattle.steps.specs.Inner.{Reached}
 use Rattle.steps.proofs.Fronts.{more}
 use Rattle.steps.specs.Course.{step_of, ended, stopped, course_of, run_of, answer_of, over}
+use Rattle.refusal.specs.Refusing.{done}
 
 -- one value counted on the way, or with those behind it
 one_more : (b : Bool) (n m : ℕ) → n + cond b (suc m) m ≡ n + bool_byte b + m
@@ -43,7 +44,7 @@ module _ (steps values₀ : List Float) (folds₀ : List ℕ) (t₀ : Tween) whe
       }
 
   module _ (room : length steps ≤ length values₀) (place : length steps ≤ length folds₀) (values : List Float) (folds : List ℕ) (t : Tween) (n i : ℕ) (s : Reached steps values₀ folds₀ t₀ values folds t n i) where
-    pub goes_on : (u : Tween) (f : Found) (k : ℕ) → i < length steps → step_of t (get_or steps i nan) ≡ TOOK u f k → within_of u ≡ true
+    pub goes_on : (u : Tween) (f : Found) (k : ℕ) → i < length steps → step_of t (get_or steps i nan) ≡ Ok (record { tween = u; found = f; folds = k }) → within_of u ≡ true
         → Reached steps values₀ folds₀ t₀ (set values i f.value) (set folds i k) u (n + bool_byte (not f.settled)) (i + 1)
     unfolding course_of
     goes_on u f k h e w =
@@ -71,9 +72,9 @@ module _ (steps values₀ : List Float) (folds₀ : List ℕ) (t₀ : Tween) whe
     stops r h e = ends (Err r) (rw (drop-cons steps i nan h, e))
 
     pub finishes : i ≡ length steps
-        → (record { tween = t; done = i; unsettled = n; outcome = Ok tt } ≡ answer_of (course_of steps t₀)) × (values ≡ over (course_of steps t₀).values values₀) × (folds ≡ over (course_of steps t₀).folds folds₀)
+        → (record { tween = t; done = i; unsettled = n; outcome = done } ≡ answer_of (course_of steps t₀)) × (values ≡ over (course_of steps t₀).values values₀) × (folds ≡ over (course_of steps t₀).folds folds₀)
     unfolding course_of
-    finishes e = ends Ok tt (ap (λ (n : ℕ). course_of (drop n steps) t) e ∙ (rw (drop-length steps)))
+    finishes e = ends done (ap (λ (n : ℕ). course_of (drop n steps) t) e ∙ (rw (drop-length steps)))
 
 -- what `run_steps` answers, by its tests
 module _ (t : Tween) (steps values : List Float) (folds : List ℕ) where

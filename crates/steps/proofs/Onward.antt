@@ -6,7 +6,7 @@ use mathlib.Core.List.{List}
 use native.Mathlib.Omega.{arith}
 use lib.ListN.{length, get_or, set, length-set}
 use lib.Ieee.{Float, nan}
-use mir.Val.{bool_byte}
+use mir.Val.{bool_byte, ok}
 use Rattle.math.proofs.Tallies.{byte-below}
 use Rattle.bezier.specs.declared.types.Found.{Found}
 use Rattle.tween.specs.declared.record.Tween.{Tween}
@@ -14,6 +14,7 @@ use Rattle.tween.specs.Limits.{within_of}
 use Rattle.steps.specs.Course.{step_of}
 use Rattle.steps.specs.Inner.{Reached}
 use Rattle.steps.proofs.Courses.{goes_on}
+use Rattle.std.specs.Prelude.{Ok}
 
 -- from step i₀ to step i
 pub record Onward (steps values₀ : List Float) (folds₀ : List ℕ) (t₀ : Tween) (n₀ i₀ : ℕ) (values : List Float) (folds : List ℕ) (t : Tween) (n i : ℕ) : Type 0 where
@@ -30,7 +31,7 @@ module _ (steps values₀ : List Float) (folds₀ : List ℕ) (t₀ : Tween) (n�
   starts w h k = record { reaches = λ vs fs s r. r; values-long = refl; folds-long = refl; within = w; later = omega arith; few = h; few-unsettled = omega (arith, k) }
 
   module _ (room : length steps ≤ length values₀) (place : length steps ≤ length folds₀) (values : List Float) (folds : List ℕ) (t : Tween) (n i : ℕ) (o : Onward steps values₀ folds₀ t₀ n₀ i₀ values folds t n i) where
-    pub one-more-step : (u : Tween) (f : Found) (k : ℕ) → i < length steps → step_of t (get_or steps i nan) ≡ TOOK u f k → within_of u ≡ true
+    pub one-more-step : (u : Tween) (f : Found) (k : ℕ) → i < length steps → step_of t (get_or steps i nan) ≡ Ok (record { tween = u; found = f; folds = k }) → within_of u ≡ true
         → Onward steps values₀ folds₀ t₀ n₀ i₀ (set values i f.value) (set folds i k) u (n + bool_byte (not f.settled)) (i + 1)
     one-more-step u f k h e w =
         record {

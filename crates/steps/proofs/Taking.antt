@@ -1,5 +1,5 @@
 -- What a step of a run says of the tween behind it. Assumes nothing.
-use Rattle.std.specs.Prelude.{Err, Ok, Result}
+use Rattle.std.specs.Prelude.{Err, Ok, Result, Some}
 use Prim.Native.Nat.{ℕ, ◌≤◌, ◌<◌}
 use mathlib.Core.Path.{◌≡◌, refl, sym, ap, ◌∙◌, subst, subst⁻¹}
 use mathlib.Core.Bool.{Bool, true, false, ◌&&◌, and_comm}
@@ -14,7 +14,7 @@ use Rattle.tween.specs.declared.answers.Updated.{Updated}
 use Rattle.folds.specs.declared.Folding.{Folding}
 use Rattle.tween.specs.Limits.{settings_within, clock_within, within_of}
 use Rattle.tween.specs.Calls.{value_of}
-use Rattle.tween.specs.Update.{update_of}
+use Rattle.tween.specs.Update.{update_of, updated}
 use Rattle.tween.specs.Inner.{Glides, placed}
 use Rattle.tween.proofs.Glides.{goes_to}
 use Rattle.tween.proofs.KeptByUpdate.{update-within}
@@ -29,7 +29,7 @@ unfolding value_of
 refuses u h = rw h
 
 -- a is the answer of `step_on`
-module _ (t u : Tween) (x : Float) (k : ℕ) (r : Bool) (a : Result Updated (Rejected Tween)) (answers : a ≡ update_of t x) (ran : a ≡ RAN u k r) where
+module _ (t u : Tween) (x : Float) (k : ℕ) (r : Bool) (a : Result Updated (Rejected Tween)) (answers : a ≡ update_of t x) (ran : a ≡ updated u k r) where
   pub stays : u.loop_count ≤ 16777216 → within_of u ≡ true
   stays h = is_true (within_of u) (update-within t u x k r (sym answers ∙ ran) (le→leb u.loop_count 16777216 h))
 
@@ -44,7 +44,7 @@ module _ (t u : Tween) (x : Float) (k : ℕ) (r : Bool) (a : Result Updated (Rej
 
 -- a step that is taken leaves a tween within its limits
 abbrev Fine : Result Taken Refusal → Type 0
-Fine (TOOK u f k) = within_of u ≡ true
+Fine (Ok o) = within_of o.tween ≡ true
 Fine (Err r) = Unit {0}
 
 fine : (u : Tween) (k : ℕ) → Fine (valued u k (value_of u))
@@ -63,13 +63,13 @@ unfolding step_of
 step-fine t x = go (update_of t x)
   where
     go : (a : Result Updated (Rejected Tween)) → Fine (taken a)
-    go (RAN u k r) = fine u k
-    go (rejected u r) = tt
+    go (Ok o) = fine o.tween o.folds
+    go (Err o) = tt
 
-pub took-within : (t u : Tween) (x : Float) (f : Found) (k : ℕ) → step_of t x ≡ TOOK u f k → within_of u ≡ true
+pub took-within : (t u : Tween) (x : Float) (f : Found) (k : ℕ) → step_of t x ≡ Ok (record { tween = u; found = f; folds = k }) → within_of u ≡ true
 took-within t u x f k e = subst Fine e (step-fine t x)
 
-module _ (t : Tween) (x w : Float) (p : Folding) (h : Glides t x (SOMEGLIDED w p)) where
-  pub glide-took : (f : Found) → value_of (placed t w p) ≡ Ok f → step_of t x ≡ TOOK (placed t w p) f p.folds
+module _ (t : Tween) (x w : Float) (p : Folding) (h : Glides t x (Some (record { waited = w; folding = p }))) where
+  pub glide-took : (f : Found) → value_of (placed t w p) ≡ Ok f → step_of t x ≡ Ok (record { tween = placed t w p; found = f; folds = p.folds })
   unfolding step_of
   glide-took f e = rw (goes_to t x w p h, e) refl

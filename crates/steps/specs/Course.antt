@@ -4,7 +4,7 @@ use Rattle.bezier.specs.declared.types.Found.{Found}
 use Rattle.refusal.specs.declared.Refusal.{Refusal}
 use Rattle.refusal.specs.declared.Refusal.TheVariants.{RecordBreaksLimit, OutputTooShort}
 use Rattle.refusal.specs.Number.{number_of}
-use Rattle.refusal.specs.Refusing.{unless}
+use Rattle.refusal.specs.Refusing.{unless, done}
 use Rattle.tween.specs.declared.record.Tween.{Tween}
 use Rattle.tween.specs.declared.answers.Updated.{Updated}
 use Rattle.tween.specs.Limits.{within_of}
@@ -17,12 +17,12 @@ use Rattle.refusal.specs.Refusing.{rejected}
 
 -- the value behind an update; where it is refused, so is the step
 abbrev pub valued : Tween → ℕ → Result Found Refusal → Result Taken Refusal
-valued u k (Ok f) = TOOK u f k
+valued u k (Ok f) = Ok (record { tween = u; found = f; folds = k })
 valued u k (Err r) = Err r
 
 abbrev pub taken : Result Updated (Rejected Tween) → Result Taken Refusal
-taken (RAN u k running) = valued u k (value_of u)
-taken (rejected u r) = Err r
+taken (Ok o) = valued o.tween o.folds (value_of o.tween)
+taken (Err o) = Err o.refusal
 
 -- one step: an update, and the value behind it
 unfoldable pub step_of : Tween → Float → Result Taken Refusal
@@ -30,7 +30,7 @@ step_of t x = taken (update_of t x)
 
 -- how a run ended, as a number: a refusal's, 0 for none
 abbrev pub outcome_number : Result ⊤ Refusal → ℕ
-outcome_number Ok tt = 0
+outcome_number (Ok tt) = 0
 outcome_number (Err r) = number_of r
 
 -- what a run comes to: the tween, the value and the folds of each step that was taken, how many of the values are not settled, and how it ended. Request 1: "Values don't change": a value is what was found, without the search behind it
@@ -55,19 +55,19 @@ counting f n = cond (not f.settled) (suc n) n
 
 -- a step that was taken, and the rest; or the first refusal, with the tween as it stood
 abbrev pub followed : Result Taken Refusal → Tween → (Tween → Course) → Course
-followed (TOOK u f k) t rest =
-    let c = rest u in
+followed (Ok o) t rest =
+    let c = rest o.tween in
     record {
       tween = c.tween;
-      values = f.value ∷ c.values;
-      folds = k ∷ c.folds;
-      unsettled = counting f c.unsettled;
+      values = o.found.value ∷ c.values;
+      folds = o.folds ∷ c.folds;
+      unsettled = counting o.found c.unsettled;
       outcome = c.outcome;
     }
 followed (Err r) t rest = stopped t r
 
 unfoldable pub course_of : List Float → Tween → Course
-course_of [] t = ended t Ok tt
+course_of [] t = ended t done
 course_of (x ∷ steps) t = followed (step_of t x) t (course_of steps)
 
 -- 4; 12 where a lent list is shorter than the steps

@@ -32,7 +32,7 @@ pub fn glide_on(
     let mut unsettled = before;
     let mut i = from;
     while i < steps.len() {
-        let Some { waited, folding } = glide(t, steps[i]) else {
+        let Some(Glided { waited, folding }) = glide(t, steps[i]) else {
             return Stretch {
                 tween: t,
                 next: i,

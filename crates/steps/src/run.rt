@@ -8,12 +8,6 @@ use crate::take::{Taken, take};
 use refusal::Refusal;
 use tween::{Tween, within};
 
-#[derive(Clone, Copy)]
-pub enum Outcome {
-    Finished,
-    Refused(Refusal),
-}
-
 // done is how many steps were taken: where the run stopped, the place of the step that was refused. The
 // tween is as it stood before that step. unsettled is how many of the values written are not settled.
 #[derive(Clone, Copy)]
@@ -51,7 +45,13 @@ fn run_on(first: Tween, steps: &[f32], values: &mut [f32], folds: &mut [u32]) ->
         unsettled = stretch.unsettled;
         if i < steps.len() {
             match take(t, steps[i]) {
-                Ok(tween, found, made) => {
+                Ok(
+                    Taken {
+                        tween,
+                        found,
+                        folds: made,
+                    },
+                ) => {
                     values[i] = found.value;
                     folds[i] = made;
                     unsettled += !found.settled as usize;

@@ -34,7 +34,7 @@ bounds-folds-i c = let p = c.requires in let r = c.glide_on-stretch.ensures.1 _ 
 
 pub overflow_add-unsettled : goal.overflow_add-unsettled
 overflow_add-unsettled c = let p = c.requires in let r = c.glide_on-stretch.ensures.1 _ _ _ c.loop-i.invariant in
-    omega (arith, byte-below (not c.in-Ok.found.settled) _ _ r.few-unsettled, c.if-i-steps.true, c.well_formed.1.0)
+    omega (arith, byte-below (not c.in-Ok.field-0.found.settled) _ _ r.few-unsettled, c.if-i-steps.true, c.well_formed.1.0)
 
 pub overflow_add-i : goal.overflow_add-i
 overflow_add-i c = omega (arith, c.if-i-steps.true, c.well_formed.1.0)
