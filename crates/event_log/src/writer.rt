@@ -6,14 +6,7 @@ use crate::event::{Event, record};
 use crate::head::{has_mark, has_version};
 use refusal::Refusal;
 
-// How long the written log is now, in bytes, or why nothing was written.
-#[derive(Clone, Copy)]
-pub enum Logged {
-    Written(usize),
-    Refused(Refusal),
-}
-
-// The head, at the buffer's start. Refused: 13 where the buffer is shorter than 5 bytes.
+// The head, at the buffer's start; answered is how long the written log is now, in bytes. Refused: 13 where the buffer is shorter than 5 bytes.
 pub fn write_head(buffer: &mut [u8]) -> Result<usize, Refusal>
     ensures answer { result ≡ (head_in buffer.old).answer }
     ensures bytes { buffer.new ≡ (head_in buffer.old).buffer }
@@ -35,10 +28,10 @@ fn number_behind(log: &[u8]) -> u16
     }
     let at = log.len() - 8;
     let last = (log[at] as u16) + (log[at + 1] as u16) * 256;
-    std::num::wrapping_add_u16(last, 1)
+    last.wrapping_add(1)
 }
 
-// One record, behind the first `written` bytes of the buffer. Refused: 5; 14; 17 where `written` is beyond
+// One record, behind the first `written` bytes of the buffer; answered is how long the log is then. Refused: 5; 14; 17 where `written` is beyond
 // the buffer; 15; 16; 17; 13.
 pub fn write_record(buffer: &mut [u8], written: usize, event: Event) -> Result<usize, Refusal>
     ensures answer { result ≡ (record_in buffer.old written event).answer }

@@ -29,11 +29,11 @@ use Rattle.refusal.specs.Refusing.{rejected}
 
 -- what a call came to
 tween_in : Tween → Result Played Refusal → Tween
-tween_in t (DONE u k) = u
+tween_in t (Ok o) = o.tween
 tween_in t (Err r) = t
 
 folds_in : Result Played Refusal → ℕ
-folds_in (DONE u k) = k
+folds_in (Ok o) = o.folds
 folds_in (Err r) = 0
 
 -- a history after an act, and the tween after the call that tells of it
@@ -41,17 +41,17 @@ module _ (h : Past) (u : Tween) (k : ℕ) where
   abbrev Agrees : Past → Type 0
   Agrees p = (p.tween ≡ u) × (p.made ≡ h.made + k)
 
-  updated-agrees : (n : ℕ) (a : Result Updated (Rejected Tween)) → by_update a ≡ DONE u k → Agrees (updated_by h n a)
+  updated-agrees : (n : ℕ) (a : Result Updated (Rejected Tween)) → by_update a ≡ Ok (record { tween = u; folds = k }) → Agrees (updated_by h n a)
   unfolding tween_in folds_in
-  updated-agrees n (RAN v m r) e = (ap (tween_in u) e, ap (λ (p : Result Played Refusal). h.made + folds_in p) e)
-  updated-agrees n (rejected v r) e = absurd (false≢true (ap is_done e))
+  updated-agrees n (Ok o) e = (ap (tween_in u) e, ap (λ (p : Result Played Refusal). h.made + folds_in p) e)
+  updated-agrees n (Err o) e = absurd (false≢true (ap is_done e))
 
-  changed-agrees : (a : Result Tween (Rejected Tween)) → by_change a ≡ DONE u k → Agrees (changed_to h a)
+  changed-agrees : (a : Result Tween (Rejected Tween)) → by_change a ≡ Ok (record { tween = u; folds = k }) → Agrees (changed_to h a)
   unfolding tween_in folds_in
   changed-agrees (Ok v) e = (ap (tween_in u) e, omega (arith, ap folds_in e))
-  changed-agrees (rejected v r) e = absurd (false≢true (ap is_done e))
+  changed-agrees (Err o) e = absurd (false≢true (ap is_done e))
 
-  agrees : (a : Act) → played_of h.tween (event_of a) ≡ DONE u k → Agrees (after h a)
+  agrees : (a : Act) → played_of h.tween (event_of a) ≡ Ok (record { tween = u; folds = k }) → Agrees (after h a)
   unfolding played_of
   agrees (step n) e = updated-agrees n (update_of h.tween (whole_f n)) e
   agrees pause e = changed-agrees (pause_of h.tween) e
@@ -59,13 +59,14 @@ module _ (h : Past) (u : Tween) (k : ℕ) where
 
 -- what a record that was read can be: a repeat, which leaves all as it was, or one whose call was accepted
 abbrev Kind : Replay → List ℕ → Result Heard Refusal → Type 0
-Kind s r (GOES g u) =
-    ((is_repeat g ≡ true) × (u ≡ s))
-    ⊎ ((is_repeat g ≡ false) × (k : ℕ) × (played_of s.tween (event_in r) ≡ DONE u.tween k) × (u.folds ≡ capped (s.folds + k)))
+Kind s r (Ok o) =
+    let u = o.reached in
+    ((is_repeat o.gap ≡ true) × (u ≡ s))
+    ⊎ ((is_repeat o.gap ≡ false) × (k : ℕ) × (played_of s.tween (event_in r) ≡ Ok (record { tween = u.tween; folds = k })) × (u.folds ≡ capped (s.folds + k)))
 Kind s r (Err x) = Unit {0}
 
 further-kind : (s : Replay) (r : List ℕ) (n g : ℕ) (p : Result Played Refusal) → is_repeat g ≡ false → played_of s.tween (event_in r) ≡ p → Kind s r (further p s n g)
-further-kind s r n g (DONE u k) b e = inr (b, k, e, refl)
+further-kind s r n g (Ok o) b e = inr (b, o.folds, e, refl)
 further-kind s r n g (Err x) b e = tt
 
 heard-kind : (s : Replay) (r : List ℕ) → Kind s r (heard_of s r)
@@ -74,7 +75,7 @@ heard-kind s r =
     let n = number_at r 0 in
     let g = gap_of s.last n in
     by-test (Kind s r) (is_wrong r) (Err WrongRecord) _ (λ _. tt) (λ _.
-    by-test (Kind s r) (is_repeat g) (GOES g s) _ (λ b. inl (b, refl)) (λ b. further-kind s r n g (played_of s.tween (event_in r)) b refl))
+    by-test (Kind s r) (is_repeat g) (Ok (record { gap = g; reached = s })) _ (λ b. inl (b, refl)) (λ b. further-kind s r n g (played_of s.tween (event_in r)) b refl))
 
 -- the records that were read, without the repeats, tell of the acts: then so do the tween and the folds, whatever is missing
 abbrev Told : List (List ℕ) → List Act → Past → Reading → Type 0
@@ -91,7 +92,7 @@ unfolding after_all
 stopped-told rs [] s h c e q t f _ = rw q (t, f)
 stopped-told rs (a ∷ acts) s h c e q t f z = absurd (omega (arith, ap length (rw (e, none_read rs) at z)))
 
-read_told : (r : List ℕ) (rs : List (List ℕ)) (acts : List Act) (s : Replay) (h : Past) (g : ℕ) (u : Replay) (c : Reading) → Kind s r (GOES g u) → s.tween ≡ h.tween → s.folds ≡ capped h.made
+read_told : (r : List ℕ) (rs : List (List ℕ)) (acts : List Act) (s : Replay) (h : Past) (g : ℕ) (u : Replay) (c : Reading) → Kind s r (Ok (record { gap = g; reached = u })) → s.tween ≡ h.tween → s.folds ≡ capped h.made
     → ((more : List Act) (p : Past) → u.tween ≡ p.tween → u.folds ≡ capped p.made → Told rs more p c)
     → Told (r ∷ rs) acts h (record { gaps = g ∷ c.gaps; replay = c.replay; outcome = c.outcome })
 unfolding after_all
@@ -100,14 +101,14 @@ read_told r rs [] s h g u c (inr (b, k, p, q)) t f rest e = absurd (omega (arith
 read_told r rs (a ∷ acts) s h g u c (inr (b, k, p, q)) t f rest e =
     let e : event_in r ∷ map event_in (without_repeats rs c.gaps) ≡ map event_of (a ∷ acts) = rw b at e in
     let event : event_in r ≡ event_of a = ap (λ (l : List Event). get_or l 0 (event_of a)) e in
-    let played : played_of h.tween (event_of a) ≡ DONE u.tween k = rw (t, event) at p in
+    let played : played_of h.tween (event_of a) ≡ Ok (record { tween = u.tween; folds = k }) = rw (t, event) at p in
     let i = agrees h u.tween k a played in
     rest acts (after h a) (sym i.0) (q ∙ omega (arith, f, i.1)) (ap (drop 1) e)
 
 heard-told : (r : List ℕ) (rs : List (List ℕ)) (acts : List Act) (s : Replay) (h : Past) (x : Result Heard Refusal) → Kind s r x → s.tween ≡ h.tween → s.folds ≡ capped h.made
     → ((more : List Act) (u : Replay) (p : Past) → u.tween ≡ p.tween → u.folds ≡ capped p.made → Told rs more p (reading_of rs u))
     → Told (r ∷ rs) acts h (followed x s (reading_of rs))
-heard-told r rs acts s h (GOES g u) k t f rest = read_told r rs acts s h g u (reading_of rs u) k t f (λ more. rest more u)
+heard-told r rs acts s h (Ok o) k t f rest = read_told r rs acts s h o.gap o.reached (reading_of rs o.reached) k t f (λ more. rest more o.reached)
 heard-told r rs acts s h (Err x) k t f rest = stopped-told (r ∷ rs) acts s h (stopped s x) refl refl t f
 
 told : (rs : List (List ℕ)) (acts : List Act) (s : Replay) (h : Past) → s.tween ≡ h.tween → s.folds ≡ capped h.made → Told rs acts h (reading_of rs s)

@@ -96,7 +96,7 @@ module _ (k : ℕ) (some : 1 ≤ k) (most : k ≤ 65534) (ds qs : List Event) (f
   counted : (o : Result ⊤ Refusal) → let c = reading_of (split 8 (length ds) (records_from 0 ds)) s in c.outcome ≡ o
       → Missing (length ds) k (joined_by o c (reading_of (split 8 (length qs) (records_from ((length ds + k) % 65536) qs))))
   counted (Err r) e = stopped-before (length ds) k (reading_of (split 8 (length ds) (records_from 0 ds)) s) s from first-follows
-  counted Ok tt e =
+  counted (Ok tt) e =
       let c = reading_of (split 8 (length ds) (records_from 0 ds)) s in
       let f = first-follows.2 e in
       let n = (length ds + k) % 65536 in

@@ -19,6 +19,7 @@ use Rattle.reader.specs.Promises.{is_f32}
 use Rattle.reader.proofs.Counting.{gap-next}
 use Rattle.reader.proofs.Recorded.{hears-recorded}
 use Rattle.refusal.specs.declared.Refusal.{Refusal}
+use Rattle.refusal.specs.Refusing.{done}
 
 -- a gap before the first of n records, and none before the others
 abbrev pub gap_then : ℕ → ℕ → List ℕ
@@ -40,10 +41,10 @@ abbrev pub Follows : ℕ → ℕ → Replay → ℕ → Reading → Type 0
 Follows m number s g c =
     (c.gaps ≡ take (length c.gaps) (gap_then g m))
     × (c.replay.missing ≡ since c.gaps s.missing (capped (s.missing + g)))
-    × (c.outcome ≡ Ok tt → (length c.gaps ≡ m) × (c.replay.last ≡ last_of number m s.last))
+    × (c.outcome ≡ done → (length c.gaps ≡ m) × (c.replay.last ≡ last_of number m s.last))
 
 is_finished : Result ⊤ Refusal → Bool
-is_finished Ok tt = true
+is_finished (Ok tt) = true
 is_finished (Err r) = false
 
 -- what was missing stays, with no gap more
@@ -64,8 +65,8 @@ one : (m number : ℕ) (s : Replay) (g : ℕ) (p : Result Played Refusal) (rest 
     → Follows (suc m) number s g (followed (further p s number g) s rest)
 unfolding is_finished
 one m number s g (Err r) rest N h = (refl, refl, λ q. absurd (false≢true (ap is_finished q)))
-one m number s g (DONE u k) rest N h =
-    let v : Replay = record { tween = u; last = Some number; missing = capped (s.missing + g); folds = capped (s.folds + k) } in
+one m number s g (Ok o) rest N h =
+    let v : Replay = record { tween = o.tween; last = Some number; missing = capped (s.missing + g); folds = capped (s.folds + o.folds) } in
     let i = h v refl in
     (ap (λ (l : List ℕ). g ∷ l) (i.0 ∙ front-again m (length (rest v).gaps)), i.1 ∙ stays (rest v).gaps (s.missing + g), λ q. (ap suc (i.2 q).0, (i.2 q).1 ∙ last_on number m N))
 

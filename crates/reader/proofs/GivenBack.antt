@@ -28,17 +28,18 @@ use Rattle.reader.proofs.Heard.{is_done}
 use Rattle.reader.proofs.Recorded.{below_top, hears-recorded}
 use Rattle.reader.proofs.Refusals.{reads, reads-log}
 use Rattle.refusal.specs.declared.Refusal.{Refusal}
+use Rattle.refusal.specs.Refusing.{done}
 
 -- an update that is too long is not accepted
 long-refused : (t : Tween) (x : Float) → lt top_f x ≡ true → is_done (by_update (update_of t x)) ≡ false
 unfolding update_of
 long-refused t x h = by-test (λ a. is_done (by_update a) ≡ false) (within_of t) _ _ (λ _. rw h refl) (λ _. refl)
 
-accepted-by : (t : Tween) (x : Float) (u : Tween) (k : ℕ) (b : Bool) → by_update (update_of t x) ≡ DONE u k → lt top_f x ≡ b → b ≡ false
+accepted-by : (t : Tween) (x : Float) (u : Tween) (k : ℕ) (b : Bool) → by_update (update_of t x) ≡ Ok (record { tween = u; folds = k }) → lt top_f x ≡ b → b ≡ false
 accepted-by t x u k true h e = absurd (false≢true (sym (long-refused t x e) ∙ ap is_done h))
 accepted-by t x u k false h e = refl
 
-accepted-short : (t : Tween) (e : Event) (u : Tween) (k : ℕ) → played_of t e ≡ DONE u k → is_long e ≡ false
+accepted-short : (t : Tween) (e : Event) (u : Tween) (k : ℕ) → played_of t e ≡ Ok (record { tween = u; folds = k }) → is_long e ≡ false
 unfolding played_of
 accepted-short t (Step x) u k h = accepted-by t x u k (lt top_f x) h refl
 accepted-short t Pause u k h = below_top
@@ -50,7 +51,7 @@ abbrev Back : RunLeft → ℕ → Replay → Type 0
 Back run n s =
     let c = reading_of (split 8 (length run.calls) (records_from n run.calls)) s in
     (c.gaps ≡ replicate (length run.calls) 0)
-    × (c.outcome ≡ Ok tt)
+    × (c.outcome ≡ done)
     × (c.replay.tween ≡ run.tween)
     × (c.replay.missing ≡ s.missing)
     × (c.replay.folds ≡ capped (s.folds + run.folds))
@@ -64,13 +65,13 @@ back_on : (e : Event) (es : List Event) (n : ℕ) (s : Replay) (p : Result Playe
     → s.folds ≤ 18446744073709551615 → Back (left_with p e s.tween (left_by es)) n s
 unfolding records_from split reading_of
 back_on e es n s (Err r) P N F z a rest b = rest n s N z a b
-back_on e es n s (DONE u k) P N F z a rest b =
-    let v = then s n u k in
-    let run = left_by es u in
-    let heard : heard_of s (record_of n e) ≡ GOES 0 v =
-    hears-recorded n N s e F (accepted-short s.tween e u k P) (λ q. omega (arith, z, q))
+back_on e es n s (Ok o) P N F z a rest b =
+    let v = then s n o.tween o.folds in
+    let run = left_by es o.tween in
+    let heard : heard_of s (record_of n e) ≡ Ok (record { gap = 0; reached = v }) =
+    hears-recorded n N s e F (accepted-short s.tween e o.tween o.folds P) (λ q. omega (arith, z, q))
     ∙ ap (λ (x : Result Played Refusal). further x s n (gap_of s.last n)) P
-    ∙ ap (further (DONE u k) s n) z
+    ∙ ap (further (Ok o) s n) z
     in
     let i = rest (next n) v (mod-lt (n + 1) (omega arith)) (gap-next n N) (omega arith) (omega arith) in
     rw heard (ap (λ (l : List ℕ). 0 ∷ l) i.0, i.1, i.2, i.3 ∙ omega arith, i.4 ∙ omega arith)
@@ -84,7 +85,7 @@ back (e ∷ es) n s F N z a b =
 -- the writer takes each call that was accepted
 taken : (e : Event) (es : List Event) (t : Tween) (p : Result Played Refusal) → played_of t e ≡ p → T (is_forward e) → ((u : Tween) → T (every may_be_logged (left_by es u).calls)) → T (every may_be_logged (left_with p e t (left_by es)).calls)
 taken e es t (Err r) P F rest = rest t
-taken e es t (DONE u k) P F rest = rw (accepted-short t e u k P, not-true (is_backward e) (is_true (is_forward e) F)) (rest u)
+taken e es t (Ok o) P F rest = rw (accepted-short t e o.tween o.folds P, not-true (is_backward e) (is_true (is_forward e) F)) (rest o.tween)
 
 all-taken : (es : List Event) (t : Tween) → T (every is_forward es) → T (every may_be_logged (left_by es t).calls)
 unfolding left_by

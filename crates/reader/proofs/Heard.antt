@@ -1,6 +1,6 @@
 -- What a record comes to, by what is seen of it. Assumes nothing.
 use Rattle.std.specs.Prelude.{Err, Result}
-use Rattle.std.proofs.Common.{◌≡◌, ℕ, Bool, true, false, List, sym, ◌∙◌, eq-eqb, ne_eqb}
+use Rattle.std.proofs.Common.{◌≡◌, ℕ, Bool, true, false, List, sym, ◌∙◌, eq-eqb, ne_eqb, Ok}
 use Rattle.refusal.specs.declared.Refusal.TheVariants.{WrongRecord}
 use Rattle.event_log.specs.declared.event.Event.{Event}
 use Rattle.event_log.specs.Writing.{number_at}
@@ -17,7 +17,7 @@ module _ (s : Replay) (r : List ℕ) where
   hears-wrong h = rw h
 
   module _ (right : is_wrong r ≡ false) (n g : ℕ) (N : n ≡ number_at r 0) (G : g ≡ gap_of s.last n) where
-    pub hears-repeat : g ≡ 65535 → heard_of s r ≡ GOES g s
+    pub hears-repeat : g ≡ 65535 → heard_of s r ≡ Ok (record { gap = g; reached = s })
     unfolding heard_of
     hears-repeat h = rw (right, sym N, sym G, eq-eqb g 65535 h)
 
@@ -31,5 +31,5 @@ heard-as s s' r r' h h' a b c d = rw (sym a, sym b) (sym c ∙ d)
 
 -- whether a call was accepted
 abbrev pub is_done : Result Played Refusal → Bool
-is_done (DONE u k) = true
+is_done (Ok o) = true
 is_done (Err r) = false

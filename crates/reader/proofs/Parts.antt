@@ -6,7 +6,7 @@ use Rattle.math.specs.Lists.{split}
 use Rattle.math.proofs.Parts.{split-append}
 use Rattle.refusal.specs.declared.Refusal.{Refusal}
 use Rattle.refusal.specs.declared.Refusal.TheVariants.{RecordBreaksLimit, WrongMark, UnknownVersion}
-use Rattle.refusal.specs.Refusing.{unless}
+use Rattle.refusal.specs.Refusing.{unless, done}
 use Rattle.tween.specs.Limits.{within_of}
 use Rattle.event_log.specs.Format.{mark, version, starts_with}
 use Rattle.reader.specs.declared.hear.Replay.{Replay}
@@ -20,15 +20,16 @@ use Rattle.reader.proofs.Refusals.{reads}
 -- a gap before those of two readings, or before those of the first
 gap-before : (g : ℕ) (o : Result ⊤ Refusal) (c : Reading) (rest : Replay → Reading) → let d = joined_by o c rest in
     record { gaps = g ∷ d.gaps; replay = d.replay; outcome = d.outcome } ≡ joined_by o (record { gaps = g ∷ c.gaps; replay = c.replay; outcome = c.outcome }) rest
-gap-before g Ok tt c rest = refl
+gap-before g (Ok tt) c rest = refl
 gap-before g (Err r) c rest = refl
 
 -- one record more in front
 one_more : (rs qs : List (List ℕ)) (s : Replay) (h : Result Heard Refusal) → ((u : Replay) → reading_of (rs ++ qs) u ≡ joined (reading_of rs u) (reading_of qs))
     → followed h s (reading_of (rs ++ qs)) ≡ joined (followed h s (reading_of rs)) (reading_of qs)
-one_more rs qs s (GOES g u) rest =
-    ap (λ (c : Reading). record { gaps = g ∷ c.gaps; replay = c.replay; outcome = c.outcome }) (rest u)
-    ∙ gap-before g (reading_of rs u).outcome (reading_of rs u) (reading_of qs)
+one_more rs qs s (Ok o) rest =
+    let read = reading_of rs o.reached in
+    ap (λ (c : Reading). record { gaps = o.gap ∷ c.gaps; replay = c.replay; outcome = c.outcome }) (rest o.reached)
+    ∙ gap-before o.gap read.outcome read (reading_of qs)
 one_more rs qs s (Err x) rest = refl
 
 pub reads_on : (rs qs : List (List ℕ)) (s : Replay) → reading_of (rs ++ qs) s ≡ joined (reading_of rs s) (reading_of qs)
@@ -38,7 +39,7 @@ reads_on (r ∷ rs) qs s = one_more rs qs s (heard_of s r) (reads_on rs qs)
 
 -- what follows, told in two ways
 same_rest : (o : Result ⊤ Refusal) (c : Reading) (f g : Replay → Reading) → ((u : Replay) → f u ≡ g u) → joined_by o c f ≡ joined_by o c g
-same_rest Ok tt c f g h = ap (λ (d : Reading). record { gaps = c.gaps ++ d.gaps; replay = d.replay; outcome = d.outcome }) (h c.replay)
+same_rest (Ok tt) c f g h = ap (λ (d : Reading). record { gaps = c.gaps ++ d.gaps; replay = d.replay; outcome = d.outcome }) (h c.replay)
 same_rest (Err r) c f g h = refl
 
 pub records-both : (a b : List ℕ) → length a % 8 ≡ 0 → records_of (a ++ b) ≡ records_of a ++ records_of b

@@ -11,6 +11,7 @@ use Rattle.reader.specs.declared.hear.Replay.{Replay}
 use Rattle.reader.specs.Records.{records_of}
 use Rattle.reader.specs.Hearing.{heard_of}
 use Rattle.reader.specs.Reading.{Reading, ended, reading_of, answer_of}
+use Rattle.refusal.specs.Refusing.{done}
 
 -- the record at place i, and those behind it
 pub records-next : (bytes : List ℕ) (i : ℕ) → i < length bytes / 8 → records_of (drop (i * 8) bytes) ≡ take 8 (drop (i * 8) bytes) ∷ records_of (drop ((i + 1) * 8) bytes)
@@ -43,7 +44,7 @@ module _ (bytes gaps₀ : List ℕ) (s₀ : Replay) where
     pub place : i < length bytes / 8 → i < length gaps
     place h = omega (arith, r.gaps-long)
 
-    pub goes_on : (g : ℕ) (u : Replay) → i < length bytes / 8 → heard_of s (take 8 (drop (i * 8) bytes)) ≡ GOES g u → Reached bytes gaps₀ s₀ (set gaps i g) u (i + 1)
+    pub goes_on : (g : ℕ) (u : Replay) → i < length bytes / 8 → heard_of s (take 8 (drop (i * 8) bytes)) ≡ Ok (record { gap = g; reached = u }) → Reached bytes gaps₀ s₀ (set gaps i g) u (i + 1)
     unfolding reading_of
     goes_on g u h e =
         record {
@@ -65,6 +66,6 @@ module _ (bytes gaps₀ : List ℕ) (s₀ : Replay) where
     stops x h e = ends (Err x) (rw (records-next bytes i h, e))
 
     pub finishes : length bytes / 8 ≤ i
-        → (record { reached = s; done = i; outcome = Ok tt } ≡ answer_of (reading_of (records_of bytes) s₀)) × (gaps ≡ over (reading_of (records_of bytes) s₀).gaps gaps₀)
+        → (record { reached = s; done = i; outcome = done } ≡ answer_of (reading_of (records_of bytes) s₀)) × (gaps ≡ over (reading_of (records_of bytes) s₀).gaps gaps₀)
     unfolding reading_of split
-    finishes h = let e : i * 8 ≡ length bytes = omega (arith, r.few) in ends Ok tt (ap (λ (n : ℕ). reading_of (records_of (drop n bytes)) s) e ∙ (rw (drop-length bytes)))
+    finishes h = let e : i * 8 ≡ length bytes = omega (arith, r.few) in ends done (ap (λ (n : ℕ). reading_of (records_of (drop n bytes)) s) e ∙ (rw (drop-length bytes)))

@@ -1,6 +1,6 @@
 -- The quick way of a record comes to what the record comes to. Assumes nothing.
 use Rattle.std.specs.Prelude.{None, Option}
-use Rattle.std.proofs.Common.{◌≡◌, ℕ, false, List, sym, refl, ap}
+use Rattle.std.proofs.Common.{◌≡◌, ℕ, false, List, sym, refl, ap, Some}
 use lib.Ieee.{Float}
 use Rattle.folds.specs.declared.Folding.{Folding}
 use Rattle.tween.specs.declared.record.Tween.{Tween}
@@ -15,13 +15,13 @@ use Rattle.reader.specs.Hearing.{gap_of, by_update, played_of}
 use Rattle.reader.specs.Inner.{SkimsStep, Skims}
 use Rattle.reader.proofs.Heard.{hears-played}
 
-pub skims-step : (t : Tween) (n g : ℕ) (x w : Float) (p : Folding) → Glides t x (SOMEGLIDED w p) → SkimsStep t n g (Step x) (SOMESKIMMED n g w p)
+pub skims-step : (t : Tween) (n g : ℕ) (x w : Float) (p : Folding) → Glides t x (Some (record { waited = w; folding = p })) → SkimsStep t n g (Step x) (Some (record { number = n; gap = g; waited = w; folding = p }))
 unfolding played_of
 skims-step t n g x w p h = (refl, refl, ap by_update (goes_to t x w p h), glide-within t x w p h)
 
 pub skims : (t : Tween) (last : Option ℕ) (bytes : List ℕ) (n g : ℕ) (e : Event) (r : Option Skimmed) → is_wrong bytes ≡ false → n ≡ number_at bytes 0 → g ≡ gap_of last n → (g ≡ 65535 → ⊥) → e ≡ event_in bytes
     → SkimsStep t n g e r → Skims t last bytes r
-skims t last bytes n g e (SOMESKIMMED number gap w p) right N G new E (q, v, played, within) = (
+skims t last bytes n g e (Some s) right N G new E (q, v, played, within) = (
   λ missing folds. rw (q, v) (hears-played (record { tween = t; last = last; missing = missing; folds = folds }) bytes right n g N G new e _ E (sym played)),
   within,
 )

@@ -36,13 +36,13 @@ capped n = min n 18446744073709551615
 
 -- an update's tween and folds, or why it is refused
 abbrev pub by_update : Result Updated (Rejected Tween) → Result Played Refusal
-by_update (RAN u k r) = DONE u k
-by_update (rejected u r) = Err r
+by_update (Ok u) = Ok (record { tween = u.tween; folds = u.folds })
+by_update (Err r) = Err r.refusal
 
 -- no other call folds
 abbrev pub by_change : Result Tween (Rejected Tween) → Result Played Refusal
-by_change (Ok u) = DONE u 0
-by_change (rejected u r) = Err r
+by_change (Ok u) = Ok (record { tween = u; folds = 0 })
+by_change (Err r) = Err r.refusal
 
 -- the call that a record tells of, made on the tween
 unfoldable pub played_of : Tween → Event → Result Played Refusal
@@ -53,8 +53,8 @@ played_of t Reset = by_change (reset_of t)
 
 -- behind the call: "The total missing is the sum"; "the folds of all replayed updates, summed". "A call refused by the tween [..] stops the replay there"
 abbrev pub further : Result Played Refusal → Replay → ℕ → ℕ → Result Heard Refusal
-further (DONE u k) s number gap =
-    GOES gap (record { tween = u; last = Some number; missing = capped (s.missing + gap); folds = capped (s.folds + k) })
+further (Ok p) s number gap =
+    Ok (record { gap = gap; reached = record { tween = p.tween; last = Some number; missing = capped (s.missing + gap); folds = capped (s.folds + p.folds) } })
 further (Err r) s number gap = Err r
 
 -- a record: "18 [..] when its record is reached, repeats too"; a repeat "is not replayed", and the total is "without repeats"
@@ -63,5 +63,5 @@ heard_of s r =
     let number = number_at r 0 in
     let gap = gap_of s.last number in
     when (is_wrong r) (Err WrongRecord)
-    (cond (is_repeat gap) (GOES gap s)
+    (cond (is_repeat gap) (Ok (record { gap = gap; reached = s }))
     (further (played_of s.tween (event_in r)) s number gap))

@@ -1,5 +1,5 @@
 -- What the inner steps of a replay promise. They are the code's: request 3 has none of them.
-use Rattle.std.specs.Prelude.{◌≡◌, ℕ, ◌+◌, true, List, None, Option, Some}
+use Rattle.std.specs.Prelude.{◌≡◌, ℕ, ◌+◌, true, List, None, Option, Some, Ok}
 use Rattle.tween.specs.declared.record.Tween.{Tween}
 use Rattle.tween.specs.Limits.{within_of}
 use Rattle.tween.specs.Inner.{placed}
@@ -9,17 +9,18 @@ use Rattle.reader.specs.Hearing.{capped, played_of, heard_of}
 
 -- the quick way of an event, and of a record: where it is unsure it promises nothing. w is the new delay_elapsed, and p what folding changes
 abbrev pub SkimsStep : Tween → ℕ → ℕ → Event → Option Skimmed → Type 0
-SkimsStep t n g e (SOMESKIMMED number gap w p) =
-    (number ≡ n)
-    × (gap ≡ g)
-    × (played_of t e ≡ DONE (placed t w p) p.folds)
-    × (within_of (placed t w p) ≡ true)
+SkimsStep t n g e (Some s) =
+    (s.number ≡ n)
+    × (s.gap ≡ g)
+    × (played_of t e ≡ Ok (record { tween = placed t s.waited s.folding; folds = s.folding.folds }))
+    × (within_of (placed t s.waited s.folding) ≡ true)
 SkimsStep t n g e None = Unit {0}
 
 abbrev pub Skims : Tween → Option ℕ → List ℕ → Option Skimmed → Type 0
-Skims t last bytes (SOMESKIMMED number gap w p) =
+Skims t last bytes (Some s) =
+    let u = placed t s.waited s.folding in
     ((missing folds : ℕ)
     → heard_of (record { tween = t; last = last; missing = missing; folds = folds }) bytes
-    ≡ GOES gap (record { tween = placed t w p; last = Some number; missing = capped (missing + gap); folds = capped (folds + p.folds) }))
-    × (within_of (placed t w p) ≡ true)
+    ≡ Ok (record { gap = s.gap; reached = record { tween = u; last = Some s.number; missing = capped (missing + s.gap); folds = capped (folds + s.folding.folds) } }))
+    × (within_of u ≡ true)
 Skims t last bytes None = Unit {0}

@@ -18,6 +18,7 @@ use Rattle.reader.specs.Records.{records_of, event_in}
 use Rattle.reader.specs.Hearing.{gap_of, is_repeat, capped, played_of}
 use Rattle.reader.specs.Reading.{read_on_of, replay_of, joined}
 use Rattle.refusal.specs.declared.Refusal.{Refusal}
+use Rattle.refusal.specs.Refusing.{done}
 
 -- what "a run of updates, pauses, resumes and resets alone" leaves: the tween, "its accepted calls, in order", and the folds of its updates
 pub record RunLeft : Type 0 where
@@ -27,9 +28,9 @@ pub record RunLeft : Type 0 where
 
 -- a call of a run, and the rest; a refused one hands the tween back
 abbrev pub left_with : Result Played Refusal → Event → Tween → (Tween → RunLeft) → RunLeft
-left_with (DONE u k) e t rest =
-    let c = rest u in
-    record { tween = c.tween; calls = e ∷ c.calls; folds = k + c.folds }
+left_with (Ok p) e t rest =
+    let c = rest p.tween in
+    record { tween = c.tween; calls = e ∷ c.calls; folds = p.folds + c.folds }
 left_with (Err r) e t rest = rest t
 
 unfoldable pub left_by : List Event → Tween → RunLeft
@@ -54,7 +55,7 @@ GivesBack =
     let c = replay_of t (take (5 + 8 * n) w.buffer) list in
     (w.answer ≡ Ok (5 + 8 * n))
     × (c.gaps ≡ replicate n 0)
-    × (c.outcome ≡ Ok tt)
+    × (c.outcome ≡ done)
     × (c.replay.tween ≡ run.tween)
     × (c.replay.missing ≡ 0)
     × (c.replay.folds ≡ capped run.folds)

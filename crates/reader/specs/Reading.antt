@@ -2,7 +2,7 @@
 use Rattle.std.specs.Prelude.{ℕ, ◌/◌, ◌%◌, List, [], ◌∷◌, ◌++◌, length, drop, ◌==◌, nat_le, Err, None, Ok, Result, ⊤}
 use Rattle.refusal.specs.declared.Refusal.{Refusal}
 use Rattle.refusal.specs.declared.Refusal.TheVariants.{RecordBreaksLimit, OutputTooShort, WrongMark, UnknownVersion, WrongLength}
-use Rattle.refusal.specs.Refusing.{unless}
+use Rattle.refusal.specs.Refusing.{unless, done}
 use Rattle.tween.specs.declared.record.Tween.{Tween}
 use Rattle.tween.specs.Limits.{within_of}
 use Rattle.event_log.specs.Format.{mark, version, starts_with}
@@ -28,14 +28,14 @@ stopped s r = ended s (Err r)
 
 -- a record, and the rest; or the first refusal, with "the tween as it stood, the total of the records before it and the list unwritten from there on"
 abbrev pub followed : Result Heard Refusal → Replay → (Replay → Reading) → Reading
-followed (GOES gap u) s rest =
-    let c = rest u in
-    record { gaps = gap ∷ c.gaps; replay = c.replay; outcome = c.outcome }
+followed (Ok h) s rest =
+    let c = rest h.reached in
+    record { gaps = h.gap ∷ c.gaps; replay = c.replay; outcome = c.outcome }
 followed (Err r) s rest = stopped s r
 
 -- "A reader replays a PEL log into a tween", record by record
 unfoldable pub reading_of : List (List ℕ) → Replay → Reading
-reading_of [] s = ended s Ok tt
+reading_of [] s = ended s done
 reading_of (r ∷ rs) s = followed (heard_of s r) s (reading_of rs)
 
 -- "17 tail shorter than a record, 12 list shorter than the records, tested in that order before any replay"
@@ -63,7 +63,7 @@ answer_of c = record { reached = c.replay; done = length c.gaps; outcome = c.out
 
 -- a reading that ended so, and what follows it in the log: behind a refusal nothing is read
 abbrev pub joined_by : Result ⊤ Refusal → Reading → (Replay → Reading) → Reading
-joined_by Ok tt c rest =
+joined_by (Ok tt) c rest =
     let d = rest c.replay in
     record { gaps = c.gaps ++ d.gaps; replay = d.replay; outcome = d.outcome }
 joined_by (Err r) c rest = c

@@ -5,8 +5,8 @@ ghost use Rattle.reader.specs.Hearing.{played_of, by_change, heard_of};
 use crate::gaps::{capped_add, gap_before};
 use crate::record::{event_in, is_wrong, number_in};
 use event_log::Event;
-use refusal::Refusal;
-use tween::{Tween, Updated};
+use refusal::{Refusal, Rejected};
+use tween::Tween;
 
 // How far a replay has come. missing is how many records are known to be missing, repeats apart; folds
 // those of all updates. Both stay at 18,446,744,073,709,551,615 where they would pass it.
@@ -18,41 +18,38 @@ pub struct Replay {
     pub folds: u64,
 }
 
+// The tween behind a call, and the folds of an update.
 #[derive(Clone, Copy)]
-pub enum Played {
-    // The tween behind the call, and the folds of an update.
-    Done(Tween, u32),
-    Refused(Refusal),
+pub struct Played {
+    pub tween: Tween,
+    pub folds: u32,
 }
 
+// What is missing before a record, and how far the replay has come with it.
 #[derive(Clone, Copy)]
-pub enum Heard {
-    // What is missing before the record, and how far the replay has come with it.
-    Goes(u16, Replay),
-    Stops(Refusal),
+pub struct Heard {
+    pub gap: u16,
+    pub reached: Replay,
 }
 
 fn changed(answer: Result<Tween, Rejected<Tween>>) -> Result<Played, Refusal>
     ensures { result ≡ by_change answer }
 {
-    match answer {
-        Ok(tween) => Ok(tween, 0),
-        Err { tween: _, refusal } => Err(refusal),
-    }
+    let tween = answer?;
+    Ok(Played { tween, folds: 0 })
 }
 
 fn play(t: Tween, event: Event) -> Result<Played, Refusal>
     ensures { result ≡ played_of t event }
 {
     match event {
-        Event::Step(step) => match t.update(step) {
-            Ok {
-                tween,
-                folds,
-                running: _,
-            } => Ok(tween, folds),
-            Err { tween: _, refusal } => Err(refusal),
-        },
+        Event::Step(step) => {
+            let updated = t.update(step)?;
+            Ok(Played {
+                tween: updated.tween,
+                folds: updated.folds,
+            })
+        }
         Event::Pause => changed(t.pause()),
         Event::Resume => changed(t.resume()),
         Event::Reset => changed(t.reset()),
@@ -70,19 +67,15 @@ pub fn hear(reached: Replay, bytes: [u8; 8]) -> Result<Heard, Refusal>
         return Err(Refusal::WrongRecord);
     }
     if gap == 65535 {
-        return Ok(gap, reached);
+        return Ok(Heard { gap, reached });
     }
     let t = reached.tween;
-    match play(t, event_in(bytes)) {
-        Ok(tween, folds) => {
-            let next = Replay {
-                tween,
-                last: Some(number),
-                missing: capped_add(reached.missing, gap as u64),
-                folds: capped_add(reached.folds, folds as u64),
-            };
-            Ok(gap, next)
-        }
-        Err(refusal) => Err(refusal),
-    }
+    let played = play(t, event_in(bytes))?;
+    let next = Replay {
+        tween: played.tween,
+        last: Some(number),
+        missing: capped_add(reached.missing, gap as u64),
+        folds: capped_add(reached.folds, played.folds as u64),
+    };
+    Ok(Heard { gap, reached: next })
 }

@@ -78,7 +78,14 @@ fn read_all(first: Replay, records: &[u8], gaps: &mut [u16]) -> Replayed
     while i < records.len() / 8 {
         let bytes = record_at(records, i);
         match skim(t, last, sure, bytes) {
-            Some(number, gap, waited, now) => {
+            Some(
+                Skimmed {
+                    number,
+                    gap,
+                    waited,
+                    folding: now,
+                },
+            ) => {
                 t.elapsed = now.elapsed;
                 t.delay_elapsed = waited;
                 t.loop_count = now.loop_count;
@@ -92,7 +99,7 @@ fn read_all(first: Replay, records: &[u8], gaps: &mut [u16]) -> Replayed
             None => {
                 let reached = so_far(t, last, missing, folds);
                 match hear(reached, bytes) {
-                    Ok(gap, next) => {
+                    Ok(Heard { gap, reached: next }) => {
                         t = next.tween;
                         last = next.last;
                         missing = next.missing;

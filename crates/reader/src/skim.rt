@@ -10,12 +10,13 @@ use folds::Folding;
 use tween::{Glided, Tween, glide};
 
 // What the common record changes, so that it can be set in place: a step of a tween that runs and goes on
-// running, with one fold at most. Unsure says nothing: `hear` answers every record.
+// running, with one fold at most. The record's number and gap; delay_elapsed; and what folding changes.
 #[derive(Clone, Copy)]
-pub enum Skimmed {
-    // The record's number and gap; delay_elapsed; and what folding changes.
-    To(u16, u16, f32, Folding),
-    Unsure,
+pub struct Skimmed {
+    pub number: u16,
+    pub gap: u16,
+    pub waited: f32,
+    pub folding: Folding,
 }
 
 fn skim_step(t: Tween, number: u16, gap: u16, event: Event) -> Option<Skimmed>
@@ -25,13 +26,18 @@ fn skim_step(t: Tween, number: u16, gap: u16, event: Event) -> Option<Skimmed>
     let Event::Step(step) = event else {
         return None;
     };
-    let Some { waited, folding } = glide(t, step) else {
+    let Some(Glided { waited, folding }) = glide(t, step) else {
         return None;
     };
-    Some(number, gap, waited, folding)
+    Some(Skimmed {
+        number,
+        gap,
+        waited,
+        folding,
+    })
 }
 
-// sure: the tween is known to be within its limits.
+// None says nothing: `hear` answers every record. sure: the tween is known to be within its limits.
 pub fn skim(t: Tween, last: Option<u16>, sure: bool, bytes: [u8; 8]) -> Option<Skimmed>
     requires { sure ≡ true → within_of t ≡ true }
     ensures { Skims t last bytes result }

@@ -1,15 +1,18 @@
 -- `play` meets its contract, by what the tween's calls ensure. Assumes nothing.
-use Rattle.std.proofs.Common.{sym, ap, ◌∙◌}
+use Rattle.std.proofs.lemmas.Result.{err_from_is_err_and}
+use Rattle.std.proofs.Common.{sym, ap, ◌∙◌, Err}
 use Rattle.reader.specs.Hearing.{played_of, by_update, by_change}
 use Rattle.reader.proofs.hear.play.Goals as goal
 
-pub returns-in-Ran : goal.returns-in-Ran
+pub returns-in_ok-updated-in-Step : goal.returns-in_ok-updated-in-Step
 unfolding played_of
-returns-in-Ran c = rw c.in-Step.is (sym (ap by_update (sym c.update.ensures ∙ c.in-Ran.is)))
+returns-in_ok-updated-in-Step c = rw c.in-Step.is (sym (ap by_update (sym c.update.ensures ∙ c.in_ok-updated-in-Step.was)))
 
-pub returns-in-Err : goal.returns-in-Err
+pub returns-in_err-updated-in-Step : goal.returns-in_err-updated-in-Step
 unfolding played_of
-returns-in-Err c = rw c.in-Step.is (sym (ap by_update (sym c.update.ensures ∙ c.in-Err.is)))
+returns-in_err-updated-in-Step c =
+    let p = err_from_is_err_and c.from_residual.result c.from_residual.ensures.1 in
+    rw c.in-Step.is (p.1 ∙ ap Err p.2 ∙ sym (ap by_update (sym c.update.ensures ∙ c.in_err-updated-in-Step.was)))
 
 pub returns-in-Pause : goal.returns-in-Pause
 unfolding played_of
