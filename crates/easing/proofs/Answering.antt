@@ -1,9 +1,8 @@
 -- The answers of `apply` and of `eq`, case by case. Assumes nothing.
-use Rattle.std.specs.Prelude.{Err, Ok, Result}
+use Rattle.std.specs.Prelude.{Err, Ok, Result, Option, None, Some}
 use Prim.Native.Nat.{ℕ}
 use mathlib.Core.Path.{◌≡◌, refl, sym, ap, ◌∙◌}
 use mathlib.Core.Bool.{Bool, true, false, ◌&&◌, true≢false}
-use mathlib.Core.Option.{Option, none, some}
 use lib.Dec.{T, eqb}
 use lib.Ieee.{Float, is_nan, le, lt, eq, of_bits}
 use Rattle.math.specs.Range.{clamp01_of}
@@ -31,8 +30,8 @@ module _ (e : Easing) (t : Float) (b : Bool) (eb : b ≡ is_nan t) where
 
   module _ (h : b ≡ false) where
     none-refused : (c : Option (Float → Float)) (search : Float → Solved) (fine : Bool) (u : Float) → is_some c ≡ false → Err EasingNotSupplied ≡ eased_at c search fine u
-    none-refused none search fine u s = refl
-    none-refused (some f) search fine u s = absurd (true≢false s)
+    none-refused None search fine u s = refl
+    none-refused (Some f) search fine u s = absurd (true≢false s)
 
     pub not-supplied : supplied_of e ≡ false → Err EasingNotSupplied ≡ apply_of e t
     unfolding apply_of supplied_of
@@ -72,6 +71,6 @@ fits-answers e p f n =
     (k.0, rw n k.1)
   where
     go : (c : Option (Float → Float)) (search : Float → Solved) (fine : Bool) (u : Float) → T (is_some c) → T fine → (f : Found) × (eased_at c search fine u ≡ Ok f)
-    go none search fine u s h = absurd s
-    go (some f) search true u s h = (found_by (search u) (f u), refl)
-    go (some f) search false u s h = absurd h
+    go None search fine u s h = absurd s
+    go (Some f) search true u s h = (found_by (search u) (f u), refl)
+    go (Some f) search false u s h = absurd h

@@ -1,9 +1,8 @@
 -- Every value that an easing answers is finite, and at most 134,217,728 in size. Assumes nothing.
-use Rattle.std.specs.Prelude.{Err, Ok, Result}
+use Rattle.std.specs.Prelude.{Err, Ok, Result, Option, None, Some}
 use Prim.Native.Nat.{ℕ, ◌≤◌}
 use mathlib.Core.Path.{refl, subst}
 use mathlib.Core.Bool.{Bool, true, false}
-use mathlib.Core.Option.{Option, none, some}
 use lib.Dec.{T, leb→le, lit≤}
 use lib.Ieee.{Float, is_nan, of_bits}
 use lib.Ieee.Fits.{and_l, and_r}
@@ -41,8 +40,8 @@ up-to-1024 : (x : Float) → T (up_to_1024 x) → AtMost 1024 x
 up-to-1024 x h = size-at-most 1024 x limit_f limit_is h
 
 abbrev Bounded : Option (Float → Float) → Float → Type 0
-Bounded none u = Unit {0}
-Bounded (some f) u = AtMost 134217728 (f u)
+Bounded None u = Unit {0}
+Bounded (Some f) u = AtMost 134217728 (f u)
 
 module _ (u : Float) (w : Within u) where
   more : (n : ℕ) (x : Float) → n ≤ 134217728 → AtMost n x → AtMost 134217728 x
@@ -94,9 +93,9 @@ Fine (Ok f) = AtMost 134217728 f.value
 Fine (Err r) = Unit {0}
 
 eased-fine : (c : Option (Float → Float)) (search : Float → Solved) (fine : Bool) (u : Float) → (T fine → Bounded c u) → Fine (eased_at c search fine u)
-eased-fine none search fine u h = tt
-eased-fine (some f) search true u h = h tt
-eased-fine (some f) search false u h = tt
+eased-fine None search fine u h = tt
+eased-fine (Some f) search true u h = h tt
+eased-fine (Some f) search false u h = tt
 
 apply-fine : (e : Easing) (t : Float) → Fine (apply_of e t)
 unfolding apply_of

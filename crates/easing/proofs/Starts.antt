@@ -1,7 +1,7 @@
 -- Every easing, at every parameter, starts at 0: what its curve answers at +0 equals 0. Assumes nothing.
+use Rattle.std.specs.Prelude.{Option, None, Some}
 use mathlib.Core.Path.{◌≡◌, refl}
 use mathlib.Core.Bool.{Bool, true}
-use mathlib.Core.Option.{Option, none, some}
 use lib.Ieee.{Float, add, sub, mul, div, neg, lt, le, eq, of_int, of_bits}
 use Rattle.math.specs.Rounded.{zero_f}
 use Rattle.curves.specs.Root.{root_from, sqrt_of}
@@ -13,17 +13,17 @@ use Rattle.easing.specs.declared.kinds.Easing.{Easing}
 use Rattle.easing.proofs.Tags.{every-kind}
 
 abbrev pub Starts : Option (Float → Float) → Type 0
-Starts none = Unit {0}
-Starts (some f) = eq (f zero_f) zero_f ≡ true
+Starts None = Unit {0}
+Starts (Some f) = eq (f zero_f) zero_f ≡ true
 
 -- the same as a test
 abbrev starts_at_zero : Option (Float → Float) → Bool
-starts_at_zero none = true
-starts_at_zero (some f) = eq (f zero_f) zero_f
+starts_at_zero None = true
+starts_at_zero (Some f) = eq (f zero_f) zero_f
 
 tested : (c : Option (Float → Float)) → starts_at_zero c ≡ true → Starts c
-tested none h = tt
-tested (some f) h = h
+tested None h = tt
+tested (Some f) h = h
 
 each-starts : (e : Easing) → starts_at_zero (curve_of e) ≡ true
 unfolding curve_of with_params add sub mul div neg lt le eq of_int of_bits sqrt_of root_from in_circ out_circ in_out_circ cubic_bezier solution_of

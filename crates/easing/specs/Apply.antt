@@ -1,6 +1,5 @@
 -- Document 01, "Easing" and "Refusal numbers": what an easing answers at a progress, and whether two easings are equal.
-use Rattle.std.specs.Prelude.{Bool, true, ◌&&◌, cond, eqb, Float, Err, Ok, Result}
-use Rattle.std.proofs.Math.Option.{Option, none, some}
+use Rattle.std.specs.Prelude.{Bool, true, ◌&&◌, cond, eqb, Float, Err, Ok, Result, Option, Some, None}
 use Rattle.std.specs.Float.Ieee.{is_nan}
 use Rattle.math.specs.Range.{clamp01_of}
 use Rattle.bezier.specs.declared.types.Solved.{Solved}
@@ -24,8 +23,8 @@ search_of e t = cond (eqb (number_of e) 31) (solution_of t (params_of e).a (para
 
 -- the curve at t, where there is one, with the search behind it; `fine` says whether the parameters are within their limits
 abbrev pub eased_at : Option (Float → Float) → (Float → Solved) → Bool → Float → Result Found Refusal
-eased_at none search fine t = Err EasingNotSupplied
-eased_at (some curve) search fine t = limited_of fine (found_by (search t) (curve t))
+eased_at None search fine t = Err EasingNotSupplied
+eased_at (Some curve) search fine t = limited_of fine (found_by (search t) (curve t))
 
 -- "t is clamped to 0..1, infinities too; NaN is refused with number 1". The order of the refusals is 1, 2, 3
 unfoldable pub apply_of : Easing → Float → Result Found Refusal

@@ -1,6 +1,5 @@
 -- Document 01, "What is ported": the supplied kinds with their curves, and the twelve that are named and refused.
-use Rattle.std.specs.Prelude.{ℕ, Bool, true, false, List, [], ◌∷◌, Float}
-use Rattle.std.proofs.Math.Option.{Option, none, some}
+use Rattle.std.specs.Prelude.{ℕ, Bool, true, false, List, [], ◌∷◌, Float, Option, Some, None}
 use Rattle.math.specs.Rounded.{f32, half_f, one_f, two_f}
 use Rattle.curves.specs.Powers.{quad, cubic, quart, quint, in_power, out_power, in_out_power}
 use Rattle.curves.specs.Circ.{in_circ, out_circ, in_out_circ}
@@ -55,48 +54,48 @@ number_of (ExpoScale start end) = 37
 
 -- "The supplied easing kinds number 26": the curve of each, at a progress from 0 to 1. "The other twelve are named and refused": they have none
 unfoldable pub curve_of : Easing → Option (Float → Float)
-curve_of Linear = some (λ t. t)
-curve_of EaseInQuad = some (in_power quad)
-curve_of EaseOutQuad = some (out_power quad)
-curve_of EaseInOutQuad = some (in_out_power quad)
-curve_of EaseInCubic = some (in_power cubic)
-curve_of EaseOutCubic = some (out_power cubic)
-curve_of EaseInOutCubic = some (in_out_power cubic)
-curve_of EaseInQuart = some (in_power quart)
-curve_of EaseOutQuart = some (out_power quart)
-curve_of EaseInOutQuart = some (in_out_power quart)
-curve_of EaseInQuint = some (in_power quint)
-curve_of EaseOutQuint = some (out_power quint)
-curve_of EaseInOutQuint = some (in_out_power quint)
-curve_of EaseInSine = none
-curve_of EaseOutSine = none
-curve_of EaseInOutSine = none
-curve_of EaseInExpo = none
-curve_of EaseOutExpo = none
-curve_of EaseInOutExpo = none
-curve_of EaseInCirc = some in_circ
-curve_of EaseOutCirc = some out_circ
-curve_of EaseInOutCirc = some in_out_circ
-curve_of EaseInBack = some in_back
-curve_of EaseOutBack = some out_back
-curve_of EaseInOutBack = some in_out_back
-curve_of EaseInElastic = none
-curve_of EaseOutElastic = none
-curve_of EaseInOutElastic = none
-curve_of EaseInBounce = some in_bounce
-curve_of EaseOutBounce = some out_bounce
-curve_of EaseInOutBounce = some in_out_bounce
-curve_of (CubicBezier x1 y1 x2 y2) = some (λ t. cubic_bezier t x1 y1 x2 y2)
-curve_of (Steps n) = some (λ t. steps_of t n)
-curve_of (RoughEase strength points) = none
-curve_of (SlowMo ratio power) = some (λ t. slow_mo t ratio power)
-curve_of (Wiggle wiggles) = none
-curve_of (CustomBounce strength) = some (λ t. custom_bounce t strength)
-curve_of (ExpoScale start end) = none
+curve_of Linear = Some (λ t. t)
+curve_of EaseInQuad = Some (in_power quad)
+curve_of EaseOutQuad = Some (out_power quad)
+curve_of EaseInOutQuad = Some (in_out_power quad)
+curve_of EaseInCubic = Some (in_power cubic)
+curve_of EaseOutCubic = Some (out_power cubic)
+curve_of EaseInOutCubic = Some (in_out_power cubic)
+curve_of EaseInQuart = Some (in_power quart)
+curve_of EaseOutQuart = Some (out_power quart)
+curve_of EaseInOutQuart = Some (in_out_power quart)
+curve_of EaseInQuint = Some (in_power quint)
+curve_of EaseOutQuint = Some (out_power quint)
+curve_of EaseInOutQuint = Some (in_out_power quint)
+curve_of EaseInSine = None
+curve_of EaseOutSine = None
+curve_of EaseInOutSine = None
+curve_of EaseInExpo = None
+curve_of EaseOutExpo = None
+curve_of EaseInOutExpo = None
+curve_of EaseInCirc = Some in_circ
+curve_of EaseOutCirc = Some out_circ
+curve_of EaseInOutCirc = Some in_out_circ
+curve_of EaseInBack = Some in_back
+curve_of EaseOutBack = Some out_back
+curve_of EaseInOutBack = Some in_out_back
+curve_of EaseInElastic = None
+curve_of EaseOutElastic = None
+curve_of EaseInOutElastic = None
+curve_of EaseInBounce = Some in_bounce
+curve_of EaseOutBounce = Some out_bounce
+curve_of EaseInOutBounce = Some in_out_bounce
+curve_of (CubicBezier x1 y1 x2 y2) = Some (λ t. cubic_bezier t x1 y1 x2 y2)
+curve_of (Steps n) = Some (λ t. steps_of t n)
+curve_of (RoughEase strength points) = None
+curve_of (SlowMo ratio power) = Some (λ t. slow_mo t ratio power)
+curve_of (Wiggle wiggles) = None
+curve_of (CustomBounce strength) = Some (λ t. custom_bounce t strength)
+curve_of (ExpoScale start end) = None
 
 abbrev pub is_some : Option (Float → Float) → Bool
-is_some none = false
-is_some (some f) = true
+is_some None = false
+is_some (Some f) = true
 
 unfoldable pub supplied_of : Easing → Bool
 unfolding curve_of

@@ -1,7 +1,6 @@
 -- Document 01's answers without request 1's mark: the values alone, or the refusal.
-use Rattle.std.specs.Prelude.{◌≡◌, Bool, ◌⊎◌, Float, Err, Ok, Result}
+use Rattle.std.specs.Prelude.{◌≡◌, Bool, ◌⊎◌, Float, Err, Ok, Result, Option, Some, None}
 use Rattle.std.proofs.Common.{inl, inr}
-use Rattle.std.proofs.Math.Option.{Option, none, some}
 use Rattle.std.specs.Float.Ieee.{is_nan}
 use Rattle.math.specs.Range.{clamp01_of}
 use Rattle.refusal.specs.declared.Refusal.{Refusal}
@@ -19,8 +18,8 @@ value_part (Ok f) = inr f.value
 value_part (Err r) = inl r
 
 abbrev pub curve_alone : Option (Float → Float) → Bool → Float → Refusal ⊎ Float
-curve_alone none fine t = inl EasingNotSupplied
-curve_alone (some curve) fine t = unless fine (inl EasingParameter) (inr (curve t))
+curve_alone None fine t = inl EasingNotSupplied
+curve_alone (Some curve) fine t = unless fine (inl EasingParameter) (inr (curve t))
 
 unfoldable pub apply_alone : Easing → Float → Refusal ⊎ Float
 apply_alone e t =

@@ -1,10 +1,9 @@
 -- What is drawn by a kind's number is what the easing answers. Assumes nothing.
-use Rattle.std.specs.Prelude.{None, Ok, Some}
+use Rattle.std.specs.Prelude.{None, Ok, Some, Option}
 use Prim.Native.Nat.{ℕ}
 use native.Mathlib.Omega.{arith}
 use mathlib.Core.Path.{◌≡◌, refl}
 use mathlib.Core.Bool.{Bool, true, false, ◌&&◌, ◌||◌, cond, false≢true}
-use mathlib.Core.Option.{Option, none, some}
 use lib.Dec.{eqb}
 use lib.Ieee.{Float, is_nan}
 use borrow.Author.Tests.{eqb-true}
@@ -55,8 +54,8 @@ unfolding fits_record_of
 fine e h = (and_both (supplied_of e) (within_of (params_of e)) h).1
 
 eased-by : (o : Option (Float → Float)) (s : Float → Solved) (u v : Float) → Some v ≡ drawn_by o u → s u ≡ solved_at true u → eased_at o s true u ≡ Ok (plain_of v)
-eased-by none s u v h g = let z : ◌≡◌ {A = ℕ} 0 1 = cc in absurd (omega arith)
-eased-by (some f) s u v h g = let e : f u ≡ v = cc in rw (g, e) refl
+eased-by None s u v h g = let z : ◌≡◌ {A = ℕ} 0 1 = cc in absurd (omega arith)
+eased-by (Some f) s u v h g = let e : f u ≡ v = cc in rw (g, e) refl
 
 apply-plain : (e : Easing) (t v : Float) → is_nan t ≡ false → within_of (params_of e) ≡ true → eqb (number_of e) 31 ≡ false → Some v ≡ drawn_by (curve_of e) (clamp01_of t) → apply_of e t ≡ Ok (plain_of v)
 unfolding apply_of search_of

@@ -1,6 +1,5 @@
 -- The curve of an easing by its number and parameters.
-use Rattle.std.specs.Prelude.{ℕ, Bool, ◌&&◌, ◌||◌, cond, eqb, Float, None, Some}
-use Rattle.std.proofs.Math.Option.{Option, none, some}
+use Rattle.std.specs.Prelude.{ℕ, Bool, ◌&&◌, ◌||◌, cond, eqb, Float, None, Some, Option}
 use Rattle.bezier.specs.Bezier.{bezier_of}
 use Rattle.easing.specs.Kinds.{curve_of}
 use Rattle.easing.specs.Params.{params, no_params, of_number, within_of}
@@ -8,8 +7,8 @@ use Rattle.words.specs.Sampling.{plain_kind}
 use Rattle.bezier.specs.declared.types.Found.{Found}
 
 abbrev pub drawn_by : Option (Float → Float) → Float → Option Float
-drawn_by none u = None
-drawn_by (some curve) u = Some (curve u)
+drawn_by None u = None
+drawn_by (Some curve) u = Some (curve u)
 
 -- the curve of a plain kind at u
 unfoldable pub draw_of : ℕ → Float → Option Float

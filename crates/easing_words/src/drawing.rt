@@ -9,21 +9,7 @@ use bezier::Found;
 use math::of_bits;
 use words::is_plain;
 
-// Other: no plain kind.
-#[derive(Clone, Copy)]
-pub enum Drawn {
-    At(f32),
-    Other,
-}
-
-// Other: no CubicBezier, or one whose parameters are beyond their limits.
-#[derive(Clone, Copy)]
-pub enum Searched {
-    At(Found),
-    Other,
-}
-
-// The curve of a plain kind.
+// The curve of a plain kind; None of every other.
 pub fn draw(kind: u32, u: f32) -> Option<f32>
     requires { Within u }
     ensures { result ≡ draw_of kind u }
@@ -79,7 +65,8 @@ pub fn holds(kind: u32, a: u32, b: u32, c: u32, d: u32) -> bool
     fits(of_bits(a), of_bits(b), of_bits(c), of_bits(d))
 }
 
-// CubicBezier, by the words of its kind and parameters.
+// CubicBezier, by the words of its kind and parameters; None where they are beyond their limits, and of every
+// other kind.
 pub fn search(kind: u32, a: u32, b: u32, c: u32, d: u32, u: f32) -> Option<Found>
     ensures { result ≡ searched_of kind (f32 a) (f32 b) (f32 c) (f32 d) u }
 {

@@ -1,7 +1,7 @@
 -- What an easing answers at +0 equals 0, a refusal counting as 0. Assumes nothing.
 use mathlib.Core.Path.{◌≡◌, refl}
 use mathlib.Core.Bool.{Bool, true, false}
-use mathlib.Core.Option.{Option, none, some}
+use Rattle.std.specs.Prelude.{Option, Some, None}
 use lib.Ieee.{Float, lt, eq, is_nan, of_bits}
 use Rattle.math.specs.Rounded.{zero_f}
 use Rattle.math.specs.Range.{clamp01_of}
@@ -18,9 +18,9 @@ unfolding eq of_bits
 zero-eq = refl
 
 eased-from : (c : Option (Float → Float)) (search : Float → Solved) (fine : Bool) → Starts c → eq (found_in (eased_at c search fine zero_f)).value zero_f ≡ true
-eased-from none search fine s = zero-eq
-eased-from (some f) search true s = s
-eased-from (some f) search false s = zero-eq
+eased-from None search fine s = zero-eq
+eased-from (Some f) search true s = s
+eased-from (Some f) search false s = zero-eq
 
 pub zero-clamped : clamp01_of zero_f ≡ zero_f
 unfolding lt of_bits

@@ -21,7 +21,7 @@ use Rattle.tween.specs.declared.record.Tween.{Tween}
 use Rattle.tween.specs.declared.record.TweenState.TheVariants.{Idle, Running, Paused, Completed}
 use Rattle.tween.specs.Limits.{within_of}
 use Rattle.tween.specs.Parts.{put}
-use Rattle.tween.specs.Update.{begin_at, after_folds, ran, folded, advanced, waiting, wait_of, run_of, by_state, update_of}
+use Rattle.tween.specs.Update.{begin_at, after_folds, ran, folded, advanced, waiting, wait_of, run_of, by_state, update_of, updated}
 use Rattle.tween.proofs.Glides.{one-fold}
 use Rattle.words.specs.Modes.{loop_from, state_word, flag_word}
 use Rattle.words.specs.Tracks.{loop_in}
@@ -60,15 +60,15 @@ steps : (t : Tween) (w e : Float) → eq t.duration zero_f ≡ false → due t.d
 unfolding advanced folded
 steps t w e z d = rw (z, d, no-fold t.looping t.duration (begin_at t e) 4095, d) refl
 
-waits : (t : Tween) (x s : Float) → within_of t ≡ true → t.state ≡ Idle → lt top_f x ≡ false → s ≡ t.delay_elapsed ⊕ max_zero_of x → lost_by t.delay_elapsed (max_zero_of x) s ≡ false → lt s t.delay ≡ true → update_of t x ≡ RAN (put (waiting t s) t) 0 true
+waits : (t : Tween) (x s : Float) → within_of t ≡ true → t.state ≡ Idle → lt top_f x ≡ false → s ≡ t.delay_elapsed ⊕ max_zero_of x → lost_by t.delay_elapsed (max_zero_of x) s ≡ false → lt s t.delay ≡ true → update_of t x ≡ updated (put (waiting t s) t) 0 true
 unfolding update_of by_state wait_of
 waits t x s w i u q l b = rw (w, u, i, ← q, l, and-false (lt zero_f (max_zero_of x)), b) refl
 
-stays : (t : Tween) (x : Float) → within_of t ≡ true → t.state ≡ Paused → lt top_f x ≡ false → update_of t x ≡ RAN t 0 true
+stays : (t : Tween) (x : Float) → within_of t ≡ true → t.state ≡ Paused → lt top_f x ≡ false → update_of t x ≡ updated t 0 true
 unfolding update_of by_state
 stays t x w s u = rw (w, u, s) refl
 
-rests : (t : Tween) (x : Float) → within_of t ≡ true → t.state ≡ Completed → lt top_f x ≡ false → update_of t x ≡ RAN t 0 false
+rests : (t : Tween) (x : Float) → within_of t ≡ true → t.state ≡ Completed → lt top_f x ≡ false → update_of t x ≡ updated t 0 false
 unfolding update_of by_state
 rests t x w s u = rw (w, u, s) refl
 

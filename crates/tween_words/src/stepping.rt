@@ -41,13 +41,12 @@ pub enum Slid {
     Folded { elapsed: u32, count: u32, flag: u32 },
     // elapsed, which comes to the duration, state, loop_count and ping_pong_reverse.
     Ended { count: u32, flag: u32 },
-    Unsure,
 }
 
 #[derive(Clone, Copy)]
-pub enum Stepped {
-    Ran { folds: u32, running: bool },
-    Unsure,
+pub struct Stepped {
+    pub folds: u32,
+    pub running: bool,
 }
 
 fn turned(mode: u32, limit: u32, count: u32, flag: u32) -> Turn
@@ -75,7 +74,7 @@ fn turned(mode: u32, limit: u32, count: u32, flag: u32) -> Turn
 }
 
 // The patterns of a tween that fits are no NaN's.
-fn run(w: &[u32; 18], secs: f32) -> Slid
+fn run(w: &[u32; 18], secs: f32) -> Option<Slid>
     requires { (fits_of w.now ≡ true) × (word_at w.now 15 ≡ 1) × (lt top_f secs ≡ false) }
     ensures { SlidesTo w.now secs result }
 {
@@ -84,35 +83,35 @@ fn run(w: &[u32; 18], secs: f32) -> Slid
     let add = math::max_zero(secs) * f32::from_bits(w[10]);
     let e = elapsed + add;
     if math::is_lost(elapsed, add, e) {
-        return Slid::Unsure;
+        return None;
     }
     if duration == 0.0 {
-        return Slid::Unsure;
+        return None;
     }
     if e < duration {
-        return Slid::To(f32::to_bits(e));
+        return Some(Slid::To(f32::to_bits(e)));
     }
     if duration <= e {
         let t = turned(w[11], w[12], w[16], w[17]);
         if t.done {
-            return Slid::Ended {
+            return Some(Slid::Ended {
                 count: t.count,
                 flag: t.flag,
-            };
+            });
         }
         let over = e - duration;
         if over < duration {
-            return Slid::Folded {
+            return Some(Slid::Folded {
                 elapsed: f32::to_bits(over),
                 count: t.count,
                 flag: t.flag,
-            };
+            });
         }
     }
-    Slid::Unsure
+    None
 }
 
-fn wait(w: &[u32; 18], secs: f32) -> Slid
+fn wait(w: &[u32; 18], secs: f32) -> Option<Slid>
     requires { (fits_of w.now ≡ true) × (word_at w.now 15 ≡ 0) × (lt top_f secs ≡ false) }
     ensures { SlidesTo w.now secs result }
 {
@@ -120,44 +119,45 @@ fn wait(w: &[u32; 18], secs: f32) -> Slid
     let step = math::max_zero(secs);
     let sum = waited + step;
     if math::is_lost(waited, step, sum) {
-        return Slid::Unsure;
+        return None;
     }
     if sum < f32::from_bits(w[9]) {
-        return Slid::Waits(f32::to_bits(sum));
+        return Some(Slid::Waits(f32::to_bits(sum)));
     }
-    Slid::Unsure
+    None
 }
 
-fn slide(w: &[u32; 18], secs: f32) -> Slid
+fn slide(w: &[u32; 18], secs: f32) -> Option<Slid>
     ensures { SlidesTo w.now secs result }
 {
     if !fits(w) {
-        return Slid::Unsure;
+        return None;
     }
     if secs > 16777216.0 {
-        return Slid::Unsure;
+        return None;
     }
     let state = w[15];
     match state {
         0 => wait(w, secs),
         1 => run(w, secs),
-        2 => Slid::Stays(true),
-        3 => Slid::Stays(false),
-        _ => Slid::Unsure,
+        2 => Some(Slid::Stays(true)),
+        3 => Some(Slid::Stays(false)),
+        _ => None,
     }
 }
 
 fn ran(folds: u32, running: bool) -> Option<Stepped>
-    ensures { result ≡ RAN folds running }
+    ensures { result ≡ Some (record { folds = folds; running = running }) }
 {
-    Some { folds, running }
+    Some(Stepped { folds, running })
 }
 
-// Unsure: no word is changed.
+// None: no word is changed.
 pub fn step_on(w: &mut [u32; 18], secs: f32) -> Option<Stepped>
     ensures { StepsTo w.old secs w.new result }
 {
-    match slide(w, secs) {
+    let slid = slide(w, secs)?;
+    match slid {
         Slid::To(e) => {
             w[13] = e;
             ran(0, true)
@@ -184,6 +184,5 @@ pub fn step_on(w: &mut [u32; 18], secs: f32) -> Option<Stepped>
             w[17] = flag;
             ran(1, false)
         }
-        Slid::Unsure => None,
     }
 }

@@ -11,7 +11,6 @@ use easing_words::{draw, search};
 pub enum Valued {
     Plain(f32),
     Searched(Found),
-    Unsure,
 }
 
 // The ends are exchanged while ping_pong_reverse.
@@ -27,26 +26,26 @@ fn blend_in(w: &[u32; 18], c: f32) -> f32
     math::blend(start, end, c)
 }
 
-pub fn value(w: &[u32; 18]) -> Valued
+pub fn value(w: &[u32; 18]) -> Option<Valued>
     ensures { ValuesTo w.now result }
 {
     if !fits(w) {
-        return Valued::Unsure;
+        return None;
     }
     let duration = f32::from_bits(w[2]);
     if duration == 0.0 {
-        return Valued::Plain(f32::from_bits(w[1]));
+        return Some(Valued::Plain(f32::from_bits(w[1])));
     }
     let p = math::ratio(f32::from_bits(w[13]), duration);
     if math::is_nan(p) {
-        return Valued::Unsure;
+        return None;
     }
     let u = math::clamp01(p);
     if let Some(c) = draw(w[3], u) {
-        return Valued::Plain(blend_in(w, c));
+        return Some(Valued::Plain(blend_in(w, c)));
     }
     if let Some(found) = search(w[3], w[4], w[5], w[6], w[7], u) {
-        return Valued::Option<Found>(found.with_value(blend_in(w, found.value)));
+        return Some(Valued::Searched(found.with_value(blend_in(w, found.value))));
     }
-    Valued::Unsure
+    None
 }

@@ -21,12 +21,6 @@ pub struct LaxEasing {
 // The number of a call whose words are no kind, no mode or no state.
 pub const UNKNOWN_WORD: u32 = 100;
 
-#[derive(Clone, Copy)]
-pub enum EasingRead {
-    Known(Easing),
-    Unknown,
-}
-
 pub fn is_kind(kind: u32) -> bool
     ensures { result ≡ is_kind kind }
 {

@@ -14,18 +14,6 @@ pub struct LaxLoop {
     pub passes: u32,
 }
 
-#[derive(Clone, Copy)]
-pub enum LoopRead {
-    Known(Loop),
-    Unknown,
-}
-
-#[derive(Clone, Copy)]
-pub enum StateRead {
-    Known(TweenState),
-    Unknown,
-}
-
 pub fn loop_of(w: LaxLoop) -> Option<Loop>
     ensures { result ≡ loop_from w }
 {

@@ -30,12 +30,6 @@ impl LaxKeyframe {
     }
 }
 
-#[derive(Clone, Copy)]
-pub enum FrameRead {
-    Known(Keyframe),
-    Unknown,
-}
-
 // The first count places are the track's frames. The places behind them are not looked at, and come
 // back as they came.
 #[repr(C)]

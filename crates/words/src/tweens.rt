@@ -23,24 +23,12 @@ pub struct LaxTween {
     pub ping_pong_reverse: u32,
 }
 
-#[derive(Clone, Copy)]
-pub enum TweenRead {
-    Known(Tween),
-    Unknown,
-}
-
 pub fn tween_of(w: LaxTween) -> Option<Tween>
     ensures { result ≡ tween_from w }
 {
-    let Some(easing) = easing_of(w.easing) else {
-        return None;
-    };
-    let Some(looping) = loop_of(w.looping) else {
-        return None;
-    };
-    let Some(state) = state_of(w.state) else {
-        return None;
-    };
+    let easing = easing_of(w.easing)?;
+    let looping = loop_of(w.looping)?;
+    let state = state_of(w.state)?;
     Some(Tween {
         start: w.start,
         end: w.end,

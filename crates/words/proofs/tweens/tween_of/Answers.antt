@@ -2,18 +2,18 @@
 use Rattle.words.specs.Tweens.{tween_from}
 use Rattle.words.proofs.tweens.tween_of.Goals as goal
 
-pub returns-in_default : goal.returns-in_default
+pub returns-in_err-easing : goal.returns-in_err-easing
 unfolding tween_from
-returns-in_default c = simp (← c.easing_of.ensures, c.in_default.is)
+returns-in_err-easing c = simp (c.from_residual.ensures, ← c.easing_of.ensures, c.in_err-easing.was)
 
-pub returns-in_default-loop_of : goal.returns-in_default-loop_of
+pub returns-in_err-looping : goal.returns-in_err-looping
 unfolding tween_from
-returns-in_default-loop_of c = simp (← c.easing_of.ensures, c.in-Some.is, ← c.loop_of.ensures, c.in_default-loop_of.is)
+returns-in_err-looping c = simp (c.from_residual-in_err-looping.ensures, ← c.easing_of.ensures, c.in_ok-easing.was, ← c.loop_of.ensures, c.in_err-looping.was)
 
-pub returns-in_default-state_of : goal.returns-in_default-state_of
+pub returns-in_err-state : goal.returns-in_err-state
 unfolding tween_from
-returns-in_default-state_of c = simp (← c.easing_of.ensures, c.in-Some.is, ← c.loop_of.ensures, c.in-Some-loop_of.is, ← c.state_of.ensures, c.in_default-state_of.is)
+returns-in_err-state c = simp (c.from_residual-in_err-state.ensures, ← c.easing_of.ensures, c.in_ok-easing.was, ← c.loop_of.ensures, c.in_ok-looping.was, ← c.state_of.ensures, c.in_err-state.was)
 
 pub returns : goal.returns
 unfolding tween_from
-returns c = simp (← c.easing_of.ensures, c.in-Some.is, ← c.loop_of.ensures, c.in-Some-loop_of.is, ← c.state_of.ensures, c.in-Some-state_of.is)
+returns c = simp (← c.easing_of.ensures, c.in_ok-easing.was, ← c.loop_of.ensures, c.in_ok-looping.was, ← c.state_of.ensures, c.in_ok-state.was)
