@@ -18,7 +18,6 @@ use Rattle.loop_mode.specs.declared.Loop.{Loop}
 use Rattle.frames.specs.declared.frame.Keyframe.{Keyframe}
 use Rattle.frames.specs.Sampling.{filled_of, sample_of, unsettled_of}
 use Rattle.keyframe.specs.declared.types.Clock.{Clock}
-use Rattle.keyframe.specs.declared.types.Changed.{Changed}
 use Rattle.keyframe.specs.declared.types.Filled.{Filled}
 use Rattle.keyframe.specs.declared.types.Ticked.{Ticked}
 use Rattle.keyframe.specs.declared.types.Track.{Track}
@@ -44,6 +43,8 @@ use Rattle.track_words.proofs.Checked.{passed-known, passed-within}
 use Rattle.track_words.proofs.Pushes.{push-outcome}
 use Rattle.capi.specs.Answers.{Answer, accepted, refused, found_words, found_in, seconds_in, progress_in, flag_in}
 use Rattle.capi.specs.Tracks.{on_track, lax_track_push, pushed, pushed_by, loop_into, looped_by, looped, lax_track_looping, lax_track_value_at, lax_track_value, lax_track_active_time, lax_track_duration, lax_track_playback_duration, lax_track_progress, completion_in, lax_track_is_complete, moved_in, lax_track_reset, lax_track_seek_to, TrackStepping, stepped_in, lax_track_update, Filling, filled_in, lax_track_values_at}
+use Rattle.refusal.specs.Refusing.{done, outcome_of}
+use Rattle.refusal.specs.declared.rejected.Rejected.{Rejected}
 
 abbrev pub answered : {A : Type 0} → ℕ → A → Answer A
 answered n a = record { number = n; left = a }
@@ -144,9 +145,9 @@ module _ (words : List ℕ) (fine : check_of words ≡ 0) where
     unfolding found_in
     value_not r e = value-by (Err r) e
 
-    pub value-is : Ok tt ≡ sample_outcome (word_at words 512) → accepted (found_words (sample_of (frames_in (track_of words)) secs)) ≡ lax_track_value_at words secs out
+    pub value-is : done ≡ sample_outcome (word_at words 512) → accepted (found_words (sample_of (frames_in (track_of words)) secs)) ≡ lax_track_value_at words secs out
     unfolding found_in
-    value-is e = value-by Ok tt e
+    value-is e = value-by done e
 
   module _ (out : List ℕ) where
     pub now-is : lax_track_value_at words (active_of (track_of words)) out ≡ lax_track_value words out
@@ -194,12 +195,12 @@ module _ (words : List ℕ) (fine : check_of words ≡ 0) where
     unfolding moved_in
     seek-not r e = sought-by (Err r) e
 
-    pub seek_is : Ok tt ≡ seek_outcome p → accepted (clock_into words (seek_of (end_of (track_of words).looping (base_of (track_of words))) (base_of (track_of words)) (clamp01_of p))) ≡ lax_track_seek_to words p
+    pub seek_is : done ≡ seek_outcome p → accepted (clock_into words (seek_of (end_of (track_of words).looping (base_of (track_of words))) (base_of (track_of words)) (clamp01_of p))) ≡ lax_track_seek_to words p
     unfolding moved_in
     seek_is e =
         let t = track_of words in
         ap accepted (stored (seek_of (end_of t.looping (base_of t)) (base_of t) (clamp01_of p)) ∙ ap (λ (u : Track). clock_into words (clock_in u)) (sought-clock t (end_of t.looping (base_of t)) (clamp01_of p)))
-        ∙ sought-by Ok tt e
+        ∙ sought-by done e
 
   -- a step, by what the clock makes of it
   module _ (step : Float) (out : ℕ) where
@@ -243,22 +244,22 @@ module _ (words : List ℕ) (fine : check_of words ≡ 0) where
         let b = batch.refused (track_of words) times out r (fill-by (track_of words) within times out (Err r) e) some in
         none_left r some ∙ filled-by (none_filled r) out b.0 b.1
 
-    pub values-is : Ok tt ≡ fill_outcome (word_at words 512) (length times) (length out)
+    pub values-is : done ≡ fill_outcome (word_at words 512) (length times) (length out)
         → accepted (filling (filled_of (frames_in (track_of words)) times out) (length times ∷ unsettled_of (frames_in (track_of words)) times ∷ [])) ≡ lax_track_values_at words times out filled
     unfolding filled_in track_from track_in
-    values-is e = let b = batch.accepted (track_of words) times out (fill-by (track_of words) within times out Ok tt e) in filled-by _ _ b.0 b.1
+    values-is e = let b = batch.accepted (track_of words) times out (fill-by (track_of words) within times out done e) in filled-by _ _ b.0 b.1
 
   -- a change of mode, by its outcome
   module _ (m : List ℕ) (l : Loop) (known : loop_from (loop_at m 0) ≡ Some l) where
     looped_by_lem : (o : Result ⊤ Refusal) → o ≡ looping_outcome l (base_of (track_of words)) → looped_by words m (changed_by (track_of words) (changed (with_mode (track_of words) l)) o).outcome ≡ lax_track_looping words m
     unfolding lax_track_looping
-    looped_by_lem o e = ap (λ (a : Changed). looped_by words m a.outcome) (looping-by (track_of words) within l o e) ∙ sym (rw known (went words (looped words m (Some l))))
+    looped_by_lem o e = ap (λ (a : Result Track (Rejected Track)). looped_by words m (outcome_of a)) (looping-by (track_of words) within l o e) ∙ sym (rw known (went words (looped words m (Some l))))
 
     pub looping-not : (r : Refusal) → Err r ≡ looping_outcome l (base_of (track_of words)) → refused words r ≡ lax_track_looping words m
     looping-not r e = looped_by_lem (Err r) e
 
-    pub looping-is : Ok tt ≡ looping_outcome l (base_of (track_of words)) → accepted (loop_into words m) ≡ lax_track_looping words m
-    looping-is e = looped_by_lem Ok tt e
+    pub looping-is : done ≡ looping_outcome l (base_of (track_of words)) → accepted (loop_into words m) ≡ lax_track_looping words m
+    looping-is e = looped_by_lem done e
 
 pub looping-unknown : (words m : List ℕ) → loop_from (loop_at m 0) ≡ None → answered 100 words ≡ lax_track_looping words m
 unfolding lax_track_looping
@@ -294,7 +295,7 @@ module _ (words row : List ℕ) (k : Keyframe) (known : frame_read (frame_at row
       go false e = let z : ◌≡◌ {A = ℕ} 0 1 = cc in absurd (omega (arith, z))
 
   module _ (fine : check_of words ≡ 0) where
-    went-push : lax_track_push words row ≡ pushed_by words row (push_of (track_of words) k).outcome
+    went-push : lax_track_push words row ≡ pushed_by words row (outcome_of (push_of (track_of words) k))
     unfolding lax_track_push
     went-push = rw known (went words fine words (pushed words row (Some k)))
 
@@ -306,14 +307,14 @@ module _ (words row : List ℕ) (k : Keyframe) (known : frame_read (frame_at row
 
       pub push-not : (r : Refusal) → Err r ≡ push_outcome k.easing (track_of words).looping (base_of (track_of words)) time k.value → refused words r ≡ lax_track_push words row
       push-not r e =
-          ap (λ (a : Changed). pushed_by words row a.outcome) (push-by (track_of words) (within words fine) k (stored_of k) (base_of (track_of words)) refl refl (Err r) (as-stored (Err r) e))
+          ap (λ (a : Result Track (Rejected Track)). pushed_by words row (outcome_of a)) (push-by (track_of words) (within words fine) k (stored_of k) (base_of (track_of words)) refl refl (Err r) (as-stored (Err r) e))
           ∙ sym went-push
 
-      module _ (taken : Ok tt ≡ push_outcome k.easing (track_of words).looping (base_of (track_of words)) time k.value) where
-        room-is : (push_of (track_of words) k).outcome ≡ cond (has_room words (stored_row row)) Ok tt (Err TrackFull)
+      module _ (taken : done ≡ push_outcome k.easing (track_of words).looping (base_of (track_of words)) time k.value) where
+        room-is : outcome_of (push_of (track_of words) k) ≡ cond (has_room words (stored_row row)) done (Err TrackFull)
         unfolding takes_of
         room-is =
-            let p = push-taken _ _ _ _ _ (as-stored Ok tt taken) in
+            let p = push-taken _ _ _ _ _ (as-stored done taken) in
             push-outcome words (stored_row row) fine k p.0 p.1 p.2 at-time
 
         -- what is left where there is room, and where there is none
@@ -321,9 +322,9 @@ module _ (words row : List ℕ) (k : Keyframe) (known : frame_read (frame_at row
             → answered (number_by o) left ≡ lax_track_push words row
         unfolding room_outcome
         push-is b r left l o e =
-            let w : lax_track_push words row ≡ pushed_by words row (cond b Ok tt (Err TrackFull)) = rw r (went-push ∙ rw room-is refl) in
+            let w : lax_track_push words row ≡ pushed_by words row (cond b done (Err TrackFull)) = rw r (went-push ∙ rw room-is refl) in
             rw (l, e) (go b ∙ sym w)
           where
-            go : (b : Bool) → answered (number_by (room_outcome (not b))) (cond b (push_into words (stored_row row)) words) ≡ pushed_by words row (cond b Ok tt (Err TrackFull))
+            go : (b : Bool) → answered (number_by (room_outcome (not b))) (cond b (push_into words (stored_row row)) words) ≡ pushed_by words row (cond b done (Err TrackFull))
             go true = refl
             go false = refl

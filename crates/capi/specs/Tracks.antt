@@ -1,9 +1,8 @@
 -- The calls of a track: the track read from its 518 words, the library's definition, and what is left in the lent words and places.
 use Rattle.std.specs.Prelude.{ℕ, cond, List, [], ◌∷◌, eqb, set, replicate, Float, Bool, Err, None, Ok, Option, Result, Some, ⊤}
 use Rattle.math.specs.Bits.{bits_of}
-use Rattle.refusal.specs.Refusing.{unless}
+use Rattle.refusal.specs.Refusing.{unless, outcome_of}
 use Rattle.keyframe.specs.declared.types.Track.{Track}
-use Rattle.keyframe.specs.declared.types.Changed.{Changed}
 use Rattle.keyframe.specs.declared.types.Updated.{Updated}
 use Rattle.keyframe.specs.declared.types.Filled.{Filled}
 use Rattle.keyframe.specs.Pushing.{looping_of, push_of}
@@ -30,11 +29,11 @@ abbrev pub lax_track_new : List ℕ
 lax_track_new = replicate 518 0
 
 abbrev pub pushed_by : List ℕ → List ℕ → Result ⊤ Refusal → Answer (List ℕ)
-pushed_by ws row Ok tt = accepted (push_into ws (stored_row row))
+pushed_by ws row (Ok tt) = accepted (push_into ws (stored_row row))
 pushed_by ws row (Err r) = refused ws r
 
 abbrev pub pushed : List ℕ → List ℕ → Option Keyframe → Track → Answer (List ℕ)
-pushed ws row (Some k) t = pushed_by ws row (push_of t k).outcome
+pushed ws row (Some k) t = pushed_by ws row (outcome_of (push_of t k))
 pushed ws row None t = unknown ws
 
 -- a frame of eight words, which are stored as they came but for a time of -0
@@ -54,11 +53,11 @@ abbrev pub loop_into : List ℕ → List ℕ → List ℕ
 loop_into ws m = set (set (set ws 514 (word_at m 0)) 515 (word_at m 1)) 517 0
 
 abbrev pub looped_by : List ℕ → List ℕ → Result ⊤ Refusal → Answer (List ℕ)
-looped_by ws m Ok tt = accepted (loop_into ws m)
+looped_by ws m (Ok tt) = accepted (loop_into ws m)
 looped_by ws m (Err r) = refused ws r
 
 abbrev pub looped : List ℕ → List ℕ → Option Loop → Track → Answer (List ℕ)
-looped ws m (Some l) t = looped_by ws m (looping_of t l).outcome
+looped ws m (Some l) t = looped_by ws m (outcome_of (looping_of t l))
 looped ws m None t = unknown ws
 
 unfoldable pub lax_track_looping : List ℕ → List ℕ → Answer (List ℕ)
@@ -90,7 +89,7 @@ unfoldable pub lax_track_is_complete : List ℕ → ℕ → Answer ℕ
 lax_track_is_complete ws out = on_track ws out (λ t. completion_in out (complete_of t))
 
 abbrev pub moved_by : List ℕ → Track → Result ⊤ Refusal → Answer (List ℕ)
-moved_by ws t Ok tt = accepted (clock_into ws (clock_in t))
+moved_by ws t (Ok tt) = accepted (clock_into ws (clock_in t))
 moved_by ws t (Err r) = refused ws r
 
 -- what moves in a track

@@ -18,3 +18,8 @@ rejected came refusal = Err (record { value = came; refusal = refusal })
 -- not refused, with nothing to hand back
 abbrev pub done : {E : Type 0} → Result ⊤ E
 done = Ok tt
+
+-- how a call ended, without what it hands back
+abbrev pub outcome_of : {A R : Type 0} → Result A (Rejected R) → Result ⊤ Refusal
+outcome_of (Ok a) = done
+outcome_of (Err r) = Err r.refusal

@@ -1,5 +1,5 @@
 -- The words that a push leaves are read as the track that it makes. Assumes nothing.
-use Rattle.std.specs.Prelude.{None, Some}
+use Rattle.std.specs.Prelude.{None, Some, Ok}
 use Prim.Native.Nat.{ℕ, suc, ◌+◌, ◌-◌, ◌*◌, ◌<◌, ◌≤◌}
 use native.Mathlib.Omega.{arith}
 use mathlib.Core.Path.{◌≡◌, refl, sym, ap, ◌∙◌}
@@ -19,7 +19,7 @@ use Rattle.frames.specs.Limits.{no_frame}
 use Rattle.frames.specs.Pushing.{pushed_of, put_of}
 use Rattle.frames.specs.Sampling.{leading}
 use Rattle.keyframe.specs.Limits.{frames_in}
-use Rattle.keyframe.specs.Pushing.{stored_of, with_frames}
+use Rattle.keyframe.specs.Pushing.{stored_of, with_frames, placed_of}
 use Rattle.words.specs.declared.tracks.LaxKeyframe.{LaxKeyframe}
 use Rattle.words.specs.Kinds.{is_kind}
 use Rattle.words.specs.Lent.{word_at, float_at, frame_at, track_in}
@@ -186,9 +186,9 @@ pub push-frames : PushFrames
 push-frames words row k from room = frames-taken words (stored_row row) (push_into words (stored_row row)) (passed-few words from.fine) (stored_of k) (taken words row k from room)
 
 pub push-back : PushBack
-unfolding put_of
+unfolding put_of placed_of
 push-back words row k from room =
     let few = passed-few words from.fine in
     let t = taken words row k from room in
     let w = push_into words (stored_row row) in
-    rw (long-is words (stored_row row) w few (stored_of k) t, le-leb t.n 64 t.most) (track-taken words (stored_row row) w few (stored_of k) t ∙ rw (long-is words (stored_row row) w few (stored_of k) t) refl)
+    rw (long-is words (stored_row row) w few (stored_of k) t, le-leb t.n 64 t.most) (ap Ok (sym (track-taken words (stored_row row) w few (stored_of k) t ∙ rw (long-is words (stored_row row) w few (stored_of k) t) refl)))

@@ -1,8 +1,8 @@
 -- Where a push is done, the words are read as the track that it hands back. Assumes nothing.
-use Rattle.std.specs.Prelude.{Err, Ok}
+use Rattle.std.specs.Prelude.{Err, Ok, Some, Option, Result, Bool, cond, None}
 use Prim.Native.Nat.{ℕ}
 use native.Mathlib.Omega.{arith}
-use mathlib.Core.Path.{◌≡◌, refl, sym, ◌∙◌}
+use mathlib.Core.Path.{◌≡◌, refl, sym, ◌∙◌, ap}
 use mathlib.Core.Bool.{true, false, false≢true}
 use mathlib.Core.List.{List}
 use lib.Dec.{leb}
@@ -15,52 +15,69 @@ use Rattle.easing.specs.Params as params
 use Rattle.frames.specs.declared.frame.Keyframe.{Keyframe}
 use Rattle.frames.specs.declared.frame.Put.{Put}
 use Rattle.frames.specs.Pushing.{pushed_of, put_of}
-use Rattle.keyframe.specs.declared.types.Changed.{Changed}
 use Rattle.keyframe.specs.declared.types.Track.{Track}
 use Rattle.keyframe.specs.Limits.{frames_in, within_of}
-use Rattle.keyframe.specs.Pushing.{placed_of, push_of, stored_of, takes_of, with_frames}
+use Rattle.keyframe.specs.Pushing.{placed_of, push_of, stored_of, takes_of, with_frames, left_by}
 use Rattle.track_words.specs.Pushing.{has_room, stored_row}
 use Rattle.track_words.specs.Reading.{track_of}
 use Rattle.track_words.specs.Promises.{Pushable, PushDone}
 use Rattle.track_words.proofs.Checked.{passed-few, passed-frames}
 use Rattle.track_words.proofs.PushBack.{push-back, stored_is, time-is}
 use Rattle.track_words.proofs.Rows.{room-is}
-
-never : {A : Type 0} (r : Refusal) → Err r ≡ Ok tt → A
-never r h = let z : ◌≡◌ {A = ℕ} 0 1 = cc in absurd (omega (arith, z))
+use Rattle.refusal.specs.Refusing.{done, outcome_of, rejected}
+use Rattle.refusal.specs.declared.rejected.Rejected.{Rejected}
 
 -- what is done is done with frames that found their places
-abbrev DoneWith : Track → Put → Changed → Type 0
-DoneWith t p r = r.outcome ≡ Ok tt → (p.full ≡ false) × (r.track ≡ with_frames t p.frames p.count)
+abbrev DoneWith : Track → Option Put → Result Track (Rejected Track) → Type 0
+DoneWith t o (Ok u) = (p : Put) × (o ≡ Some p) × (u ≡ with_frames t p.frames p.count)
+DoneWith t o (Err r) = Unit {0}
 
 module _ (t : Track) (k : Keyframe) where
-  abbrev put : Put
+  abbrev put : Option Put
   put = put_of t.frames t.count (stored_of k)
 
+  placed-done : (o : Option Put) → DoneWith t o (placed_of t o)
+  unfolding placed_of
+  placed-done (Some p) = (p, refl, refl)
+  placed-done None = tt
+
   done-with : DoneWith t (put_of t.frames t.count (stored_of k)) (push_of t k)
-  unfolding push_of placed_of
+  unfolding push_of
   done-with =
       by-test (DoneWith t put) (within_of t) _ _
       (λ _.
       by-test (DoneWith t put) (supplied_of k.easing) _ _
       (λ _.
       by-test (DoneWith t put) (params.within_of (params.params_of k.easing)) _ _
-      (λ _. by-test (DoneWith t put) (takes_of t (stored_of k)) _ _ (λ _. by-test (DoneWith t put) put.full _ _ (λ _ h. never TrackFull h) (λ e _. (e, refl))) (λ _ h. never TrackLimit h))
-      (λ _ h. never EasingParameter h))
-      (λ _ h. never EasingNotSupplied h))
-      (λ _ h. never RecordBreaksLimit h)
+      (λ _. by-test (DoneWith t put) (takes_of t (stored_of k)) _ _ (λ _. placed-done put) (λ _. tt))
+      (λ _. tt))
+      (λ _. tt))
+      (λ _. tt)
 
-  few-then : (put_of t.frames t.count (stored_of k)).full ≡ false → leb (length (pushed_of (stored_of k) (frames_in t))) 64 ≡ true
+  few-then : (p : Put) → put_of t.frames t.count (stored_of k) ≡ Some p → leb (length (pushed_of (stored_of k) (frames_in t))) 64 ≡ true
   unfolding put_of
-  few-then =
-      let b = leb (length (pushed_of (stored_of k) (frames_in t))) 64 in
-      by-test (λ (p : Put). p.full ≡ false → b ≡ true) b _ _ (λ e _. e) (λ _ h. absurd (false≢true (sym h)))
+  few-then p = go (leb (length (pushed_of (stored_of k) (frames_in t))) 64) _
+    where
+      go : (b : Bool) (q : Put) → cond b (Some q) None ≡ Some p → b ≡ true
+      go true q e = refl
+      go false q e = let z : ◌≡◌ {A = ℕ} 0 1 = cc in absurd (omega (arith, z))
 
-pub done-room : (words row : List ℕ) (k : Keyframe) → Pushable words row k → (push_of (track_of words) k).outcome ≡ Ok tt → has_room words (stored_row row) ≡ true
-done-room words row k from done =
+  -- what an accepted push hands back
+  pushed-with : (a : Result Track (Rejected Track)) → outcome_of a ≡ done → DoneWith t put a → (p : Put) × (put ≡ Some p) × (left_by a ≡ with_frames t p.frames p.count)
+  pushed-with (Ok u) e h = h
+  pushed-with (Err r) e h = let z : ◌≡◌ {A = ℕ} 0 1 = cc in absurd (omega (arith, z))
+
+pub done-room : (words row : List ℕ) (k : Keyframe) → Pushable words row k → outcome_of (push_of (track_of words) k) ≡ done → has_room words (stored_row row) ≡ true
+done-room words row k from ended =
+    let t = track_of words in
     let few = passed-few words from.fine in
     let at = time-is words (stored_row row) from.long few (stored_of k) (stored_is row k from.known) in
-    sym (room-is words (stored_row row) few (stored_of k) at) ∙ (rw (passed-frames words from.fine) at (few-then (track_of words) k (done-with (track_of words) k done).0))
+    let w = pushed-with t k (push_of t k) ended (done-with t k) in
+    sym (room-is words (stored_row row) few (stored_of k) at) ∙ (rw (passed-frames words from.fine) at (few-then t k w.0 w.1))
 
 pub push-done : PushDone
-push-done words row k from done = push-back words row k from (done-room words row k from done) ∙ sym (done-with (track_of words) k done).1
+unfolding placed_of
+push-done words row k from ended =
+    let t = track_of words in
+    let w = pushed-with t k (push_of t k) ended (done-with t k) in
+    sym (ap left_by (push-back words row k from (done-room words row k from ended))) ∙ ap (λ (o : Option Put). left_by (placed_of t o)) w.1 ∙ sym w.2

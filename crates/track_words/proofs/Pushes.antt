@@ -1,5 +1,5 @@
 -- The cases of a push into words that pass the check. Assumes nothing.
-use Rattle.std.specs.Prelude.{Err, Ok}
+use Rattle.std.specs.Prelude.{Err, Ok, Some, None}
 use Prim.Native.Nat.{ℕ}
 use mathlib.Core.Path.{◌≡◌, refl, ◌∙◌}
 use mathlib.Core.Bool.{Bool, true, false, cond}
@@ -20,20 +20,21 @@ use Rattle.track_words.specs.Pushing.{has_room}
 use Rattle.track_words.specs.Reading.{track_of}
 use Rattle.track_words.proofs.Checked.{passed-few, passed-frames, passed-within}
 use Rattle.track_words.proofs.Rows.{room-is}
+use Rattle.refusal.specs.Refusing.{done, outcome_of}
 
 -- whether a frame finds a place goes by how many frames there are then
-placed_by : (t : Track) (k : Keyframe) → (placed_of t (put_of t.frames t.count k)).outcome ≡ cond (leb (length (pushed_of k (frames_in t))) 64) Ok tt (Err TrackFull)
+placed_by : (t : Track) (k : Keyframe) → outcome_of (placed_of t (put_of t.frames t.count k)) ≡ cond (leb (length (pushed_of k (frames_in t))) 64) done (Err TrackFull)
 unfolding placed_of put_of
 placed_by t k = go (leb (length (pushed_of k (frames_in t))) 64) (pushed_of k (frames_in t))
   where
     go : (b : Bool) (l : List Keyframe)
-        → (placed_of t (cond b (record { frames = l ++ drop (length l) t.frames; count = length l; full = false }) (record { frames = t.frames; count = t.count; full = true }))).outcome ≡ cond b Ok tt (Err TrackFull)
+        → outcome_of (placed_of t (cond b (Some (record { frames = l ++ drop (length l) t.frames; count = length l })) None)) ≡ cond b done (Err TrackFull)
     go true l = refl
     go false l = refl
 
 module _ (words row : List ℕ) (fine : check_of words ≡ 0) (k : Keyframe) (supplied : supplied_of k.easing ≡ true) (fits : params.within_of (params.params_of k.easing) ≡ true)
     (taken : takes_of (track_of words) (stored_of k) ≡ true) (at : (stored_of k).time ≡ float_at row 0) where
-  pub push-outcome : (push_of (track_of words) k).outcome ≡ cond (has_room words row) Ok tt (Err TrackFull)
+  pub push-outcome : outcome_of (push_of (track_of words) k) ≡ cond (has_room words row) done (Err TrackFull)
   unfolding push_of
   push-outcome =
       rw (passed-within words fine, supplied, fits, taken)

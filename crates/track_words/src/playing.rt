@@ -12,6 +12,7 @@ use crate::reading::{complete, elapsed, last_time, looping, wide, word_at};
 use crate::sampling::sample;
 use bezier::Found;
 use keyframe::{Clock, Ticked};
+use refusal::Refusal;
 
 pub fn count(w: &[u32; 518]) -> usize
     ensures { result ≡ word_at w.now 512 }

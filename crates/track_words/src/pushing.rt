@@ -13,6 +13,7 @@ ghost use Rattle.track_words.specs.Reading.{frames_of, track_of};
 use crate::playing::{count, duration};
 use crate::reading::{float_at, looping};
 use easing::Easing;
+use refusal::Refusal;
 
 // -0 as a time becomes +0.
 fn stored_time(word: u32) -> u32
