@@ -25,7 +25,7 @@ use Rattle.keyframe.specs.Batch.{batch_answer, batch_count, batch_number, batch_
 use Rattle.keyframe.specs.Clock.{clock_in, clock_of, seek_of, tick_of, ticked_in, with_clock}
 use Rattle.keyframe.specs.Limits.{base_of, end_of, frames_in, within_of}
 use Rattle.keyframe.specs.Playback.{active_of, active_time_of, complete_of, done_of, duration_in, playback_in, playback_of, playback_progress, progress_of}
-use Rattle.keyframe.specs.Pushing.{changed, looping_of, push_of, stored_of, takes_of, with_mode}
+use Rattle.keyframe.specs.Pushing.{looping_of, push_of, stored_of, takes_of, with_mode}
 use Rattle.keyframe.specs.Sampling.{value_at_of}
 use Rattle.keyframe.specs.Stepping.{reset_of, seek_to_of, sought_of, update_of}
 use Rattle.keyframe.specs.Inner.{fill_outcome, looping_outcome, push_outcome, room_outcome, sample_outcome, seek_outcome}
@@ -187,7 +187,7 @@ module _ (words : List ℕ) (fine : check_of words ≡ 0) where
   -- a seek, by its outcome
   module _ (p : Float) where
     sought-by : (o : Result ⊤ Refusal) → o ≡ seek_outcome p
-        → moved_in words (changed_by (track_of words) (changed (sought_of (end_of (track_of words).looping (base_of (track_of words))) (track_of words) (clamp01_of p))) o) ≡ lax_track_seek_to words p
+        → moved_in words (changed_by (track_of words) (Ok (sought_of (end_of (track_of words).looping (base_of (track_of words))) (track_of words) (clamp01_of p))) o) ≡ lax_track_seek_to words p
     unfolding lax_track_seek_to
     sought-by o e = ap (moved_in words) (seek-by (track_of words) within p o e) ∙ sym (went words (λ t. moved_in words (seek_to_of t p)))
 
@@ -213,10 +213,10 @@ module _ (words : List ℕ) (fine : check_of words ≡ 0) where
         ap (λ (y : Result Ticked Refusal). stepped_in (stepping words out) (ticked_in (track_of words) y)) e
         ∙ (ap (stepped_in (stepping words out)) (update-ticked (track_of words) step within) ∙ sym (went (stepping words out) (λ t. stepped_in (stepping words out) (update_of t step))))
 
-    pub update-is : (c : Clock) (running : Bool) → RAN c running ≡ tick_of (track_of words).count (base_of (track_of words)) (track_of words).looping (clock_in (track_of words)) step
+    pub update-is : (c : Clock) (running : Bool) → Ok (record { clock = c; running = running }) ≡ tick_of (track_of words).count (base_of (track_of words)) (track_of words).looping (clock_in (track_of words)) step
         → accepted (stepping (clock_into words c) (flag_word running)) ≡ lax_track_update words step out
     unfolding stepped_in
-    update-is c running e = ap (λ (ws : List ℕ). accepted (stepping ws (flag_word running))) (stored c) ∙ by-tick (RAN c running) e
+    update-is c running e = ap (λ (ws : List ℕ). accepted (stepping ws (flag_word running))) (stored c) ∙ by-tick (Ok (record { clock = c; running = running })) e
 
     pub update-not : (r : Refusal) → Err r ≡ tick_of (track_of words).count (base_of (track_of words)) (track_of words).looping (clock_in (track_of words)) step → refused (stepping words out) r ≡ lax_track_update words step out
     unfolding stepped_in
@@ -251,7 +251,7 @@ module _ (words : List ℕ) (fine : check_of words ≡ 0) where
 
   -- a change of mode, by its outcome
   module _ (m : List ℕ) (l : Loop) (known : loop_from (loop_at m 0) ≡ Some l) where
-    looped_by_lem : (o : Result ⊤ Refusal) → o ≡ looping_outcome l (base_of (track_of words)) → looped_by words m (changed_by (track_of words) (changed (with_mode (track_of words) l)) o).outcome ≡ lax_track_looping words m
+    looped_by_lem : (o : Result ⊤ Refusal) → o ≡ looping_outcome l (base_of (track_of words)) → looped_by words m (outcome_of (changed_by (track_of words) (Ok (with_mode (track_of words) l)) o)) ≡ lax_track_looping words m
     unfolding lax_track_looping
     looped_by_lem o e = ap (λ (a : Result Track (Rejected Track)). looped_by words m (outcome_of a)) (looping-by (track_of words) within l o e) ∙ sym (rw known (went words (looped words m (Some l))))
 

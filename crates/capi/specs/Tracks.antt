@@ -1,7 +1,7 @@
 -- The calls of a track: the track read from its 518 words, the library's definition, and what is left in the lent words and places.
 use Rattle.std.specs.Prelude.{ℕ, cond, List, [], ◌∷◌, eqb, set, replicate, Float, Bool, Err, None, Ok, Option, Result, Some, ⊤}
 use Rattle.math.specs.Bits.{bits_of}
-use Rattle.refusal.specs.Refusing.{unless, outcome_of}
+use Rattle.refusal.specs.Refusing.{unless, outcome_of, rejected}
 use Rattle.keyframe.specs.declared.types.Track.{Track}
 use Rattle.keyframe.specs.declared.types.Updated.{Updated}
 use Rattle.keyframe.specs.declared.types.Filled.{Filled}
@@ -19,6 +19,7 @@ use Rattle.capi.specs.Answers.{Answer, accepted, refused, unknown, found_in, sec
 use Rattle.frames.specs.declared.frame.Keyframe.{Keyframe}
 use Rattle.loop_mode.specs.declared.Loop.{Loop}
 use Rattle.refusal.specs.declared.Refusal.{Refusal}
+use Rattle.refusal.specs.declared.rejected.Rejected.{Rejected}
 
 -- the answer for the track that is read, or the one for words that are none
 abbrev pub on_track : {A : Type 0} → List ℕ → A → (Track → Answer A) → Answer A
@@ -88,13 +89,10 @@ completion_in out (Err r) = refused out r
 unfoldable pub lax_track_is_complete : List ℕ → ℕ → Answer ℕ
 lax_track_is_complete ws out = on_track ws out (λ t. completion_in out (complete_of t))
 
-abbrev pub moved_by : List ℕ → Track → Result ⊤ Refusal → Answer (List ℕ)
-moved_by ws t (Ok tt) = accepted (clock_into ws (clock_in t))
-moved_by ws t (Err r) = refused ws r
-
 -- what moves in a track
-unfoldable pub moved_in : List ℕ → Changed → Answer (List ℕ)
-moved_in ws a = moved_by ws a.track a.outcome
+unfoldable pub moved_in : List ℕ → Result Track (Rejected Track) → Answer (List ℕ)
+moved_in ws (Ok t) = accepted (clock_into ws (clock_in t))
+moved_in ws (Err r) = refused ws r.refusal
 
 unfoldable pub lax_track_reset : List ℕ → Answer (List ℕ)
 lax_track_reset ws = on_track ws ws (λ t. moved_in ws (reset_of t))
@@ -107,12 +105,9 @@ pub record TrackStepping : Type 0 where
   pub words : List ℕ
   pub running : ℕ
 
-abbrev pub stepped_by : TrackStepping → Track → Result Bool Refusal → Answer TrackStepping
-stepped_by came t (Ok running) = accepted (record { words = clock_into came.words (clock_in t); running = flag_word running })
-stepped_by came t (Err r) = refused came r
-
-unfoldable pub stepped_in : TrackStepping → Updated → Answer TrackStepping
-stepped_in came a = stepped_by came a.track a.stepped
+unfoldable pub stepped_in : TrackStepping → Result Updated (Rejected Track) → Answer TrackStepping
+stepped_in came (Ok u) = accepted (record { words = clock_into came.words (clock_in u.track); running = flag_word u.running })
+stepped_in came (Err r) = refused came r.refusal
 
 unfoldable pub lax_track_update : List ℕ → Float → ℕ → Answer TrackStepping
 lax_track_update ws step running =

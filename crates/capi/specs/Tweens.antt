@@ -63,7 +63,7 @@ lax_tween_playback_duration ws out = on_tween ws out (λ t. seconds_in out (play
 
 unfoldable pub changed_in : List ℕ → Result Tween (Rejected Tween) → Answer (List ℕ)
 changed_in ws (Ok u) = accepted (tween_into ws u)
-changed_in ws (rejected u r) = refused ws r
+changed_in ws (Err o) = refused ws o.refusal
 
 unfoldable pub lax_tween_reset : List ℕ → Answer (List ℕ)
 lax_tween_reset ws = on_tween ws ws (λ t. changed_in ws (reset_of t))
@@ -86,8 +86,8 @@ pub record Stepping : Type 0 where
   pub out : List ℕ
 
 unfoldable pub updated_in : Stepping → Result Updated (Rejected Tween) → Answer Stepping
-updated_in came (RAN u k running) = accepted (record { words = tween_into came.words u; out = k ∷ flag_word running ∷ [] })
-updated_in came (rejected u r) = refused came r
+updated_in came (Ok o) = accepted (record { words = tween_into came.words o.tween; out = o.folds ∷ flag_word o.running ∷ [] })
+updated_in came (Err o) = refused came o.refusal
 
 unfoldable pub lax_tween_update : List ℕ → Float → List ℕ → Answer Stepping
 lax_tween_update ws step out =

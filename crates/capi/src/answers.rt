@@ -7,6 +7,9 @@ ghost use Rattle.capi.specs.Answers.{answering, accepted, found_words, found_in,
 ghost use Rattle.capi.specs.Tweens.{snapshot_in, changed_in};
 
 use bezier::Found;
+use refusal::{Refusal, Rejected};
+use tween::{Tween, TweenSnapshot};
+use units::{Progress, Seconds};
 pub use words::UNKNOWN_WORD;
 use words::{flag_word, state_word, store_tween};
 
@@ -100,7 +103,7 @@ pub fn put_tween(a: Result<Tween, Rejected<Tween>>, w: &mut [u32; 18]) -> u32
             store_tween(w, u);
             0
         }
-        Err { tween: _, refusal } => refusal.number(),
+        Err(rejected) => rejected.refusal.number(),
     }
 }
 

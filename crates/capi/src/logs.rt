@@ -6,12 +6,7 @@ ghost use Rattle.capi.specs.Logs.{event_in, length_in, lax_log_head, lax_log_rec
 
 use crate::answers::UNKNOWN_WORD;
 use event_log::{Event, write_head, write_record};
-
-#[derive(Clone, Copy)]
-pub enum EventRead {
-    Known(Event),
-    Unknown,
-}
+use refusal::Refusal;
 
 // kind: 1 step, 2 pause, 3 resume, 4 reset. The step, in seconds, is looked at in 1.
 fn event_in(w: &[u32; 2]) -> Option<Event>

@@ -8,12 +8,6 @@ use crate::answers::{UNKNOWN_WORD, outcome_number};
 use reader::{Replay, Replayed, replay, replay_on};
 use words::{store_tween, tween_in, tween_of};
 
-#[derive(Clone, Copy)]
-pub enum LastRead {
-    Known(Last),
-    Unknown,
-}
-
 // The number of the last record that was read, 65,536 where none was.
 fn last_of(last: u64) -> Option<Option<u16>>
     ensures { result ≡ last_from last }

@@ -27,10 +27,7 @@ pub fn lax_track_looping(w: &mut [u32; 518], mode: &[u32; 2]) -> u32
     if number != 0 {
         return number;
     }
-    if let Err(refusal) = keyframe::looping_outcome(
-        looping,
-        track_words::duration(w),
-    ) {
+    if let Err(refusal) = keyframe::looping_outcome(looping, track_words::duration(w)) {
         return refusal.number();
     }
     w[514] = mode[0];
@@ -168,7 +165,7 @@ pub fn lax_track_update(w: &mut [u32; 518], step: f32, out: &mut u32) -> u32
         return number;
     }
     match track_words::tick(w, step) {
-        Ok { clock, running } => {
+        Ok(Ticked { clock, running }) => {
             track_words::store_clock(w, clock);
             *out = flag_word(running);
             0

@@ -57,9 +57,9 @@ pub fn lax_tween_value(w: &[u32; 18], out: &mut [u32; 4]) -> u32
     ensures { answering result out.new ≡ lax_tween_value w.now out.old }
 {
     match value(w) {
-        Valued::Plain(v) => put_plain(v, out),
-        Valued::Searched(found) => put_found(Ok(found), out),
-        Valued::Unsure => value_in(w, out),
+        Some(Valued::Plain(v)) => put_plain(v, out),
+        Some(Valued::Searched(found)) => put_found(Ok(found), out),
+        None => value_in(w, out),
     }
 }
 
@@ -150,16 +150,18 @@ fn update_in(w: &mut [u32; 18], step: f32, out: &mut [u32; 2]) -> u32
 {
     match tween_of(tween_in(w)) {
         Some(t) => match t.update(step) {
-            Ok {
-                tween,
-                folds,
-                running,
-            } => {
+            Ok(
+                Updated {
+                    tween,
+                    folds,
+                    running,
+                },
+            ) => {
                 store_tween(w, tween);
                 *out = [folds, flag_word(running)];
                 0
             }
-            Err { tween: _, refusal } => refusal.number(),
+            Err(rejected) => rejected.refusal.number(),
         },
         None => UNKNOWN_WORD,
     }
@@ -170,7 +172,7 @@ pub fn lax_tween_update(w: &mut [u32; 18], step: f32, out: &mut [u32; 2]) -> u32
     ensures { answering result (record { words = w.new; out = out.new }) ≡ lax_tween_update w.old step out.old }
 {
     match step_on(w, step) {
-        Some { folds, running } => {
+        Some(Stepped { folds, running }) => {
             *out = [folds, flag_word(running)];
             0
         }

@@ -9,8 +9,8 @@ returns-then-number-ne0 c = three _ _ _ _ (stopped-update c.args.w.now _ c.check
 pub tick-requires : goal.tick-requires
 tick-requires c = sym c.check-number.ensures ∙ c.if-number-ne0.false
 
-pub returns-in-Ran : goal.returns-in-Ran
-returns-in-Ran c = three _ _ _ _ (rw (c.store_clock.ensures, c.flag_word.ensures) (update-is c.args.w.now (sym c.check-number.ensures ∙ c.if-number-ne0.false) c.args.step c.args.out.now _ _ (sym c.in-Ran.is ∙ c.tick.ensures)))
+pub returns-in-Ok : goal.returns-in-Ok
+returns-in-Ok c = three _ _ _ _ (rw (c.store_clock.ensures, c.flag_word.ensures) (update-is c.args.w.now (sym c.check-number.ensures ∙ c.if-number-ne0.false) c.args.step c.args.out.now _ _ (sym c.in-Ok.is ∙ c.tick.ensures)))
 
 pub returns-in-Err : goal.returns-in-Err
 returns-in-Err c = three _ _ _ _ (rw c.number.ensures (update-not c.args.w.now (sym c.check-number.ensures ∙ c.if-number-ne0.false) c.args.step c.args.out.now _ (sym c.in-Err.is ∙ c.tick.ensures)))

@@ -2,9 +2,9 @@
 use Rattle.capi.specs.Tweens.{updated_in, lax_tween_update}
 use Rattle.capi.proofs.tweens.update_in.Goals as goal
 
-pub returns-in-Ran : goal.returns-in-Ran
+pub returns-in-Ok : goal.returns-in-Ok
 unfolding lax_tween_update updated_in
-returns-in-Ran c = simp (← c.tween_in.ensures, ← c.tween_of.ensures, c.in-Some.is, ← c.update.ensures, c.in-Ran.is, c.flag_word.ensures, c.store_tween.ensures)
+returns-in-Ok c = simp (← c.tween_in.ensures, ← c.tween_of.ensures, c.in-Some.is, ← c.update.ensures, c.in-Ok.is, c.flag_word.ensures, c.store_tween.ensures)
 
 pub returns-in-Err : goal.returns-in-Err
 unfolding lax_tween_update updated_in
