@@ -6,7 +6,8 @@ mod printing;
 mod reading;
 mod scan;
 mod spelling;
+mod text;
 
 pub use printing::text_of;
-pub use reading::{Decimal, read};
-pub use spelling::Text;
+pub use reading::{DecimalError, read};
+pub use text::Text;

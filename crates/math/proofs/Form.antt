@@ -1,72 +1,10 @@
 -- What a test says of a float's form. Assumes nothing.
-use Rattle.std.proofs.Common.{◌≡◌, ℕ, ◌+◌, ◌*◌, ◌<◌, ◌≤◌, Bool, true, false, cond, ◌&&◌, ◌||◌, T, eqb, ltb, leb, ℤ, pos, sym, refl, ap, ◌∙◌, ⊎_elim, true≢false, add-zero, eq-zero-or-pos, mul-pos, zero-add, zero-mul, arith, ltb-false, ltb-true, le-ltb, eq-eqb}
-use mathlib.Core.Bool.{and-true, false≢true}
-use lib.Ieee.{Float, nan, inf, fin, Format, up, down, lt, le, eq, ne, neg, fits, is_nan, of_bits}
+use Rattle.std.proofs.Common.{◌≡◌, ℕ, ◌+◌, ◌*◌, ◌<◌, ◌≤◌, Bool, true, false, cond, ltb, leb, ℤ, sym, refl, ap, ◌∙◌, ⊎_elim, add-zero, eq-zero-or-pos, mul-pos, zero-add, zero-mul, arith, ltb-false, le-ltb}
+use mathlib.Core.Bool.{and-true}
+use lib.Ieee.{Float, nan, inf, fin, up, down, lt, le, eq, neg}
 use lib.Ieee.Fits.{down_pos}
-use Rattle.math.specs.Rounded.{zero_f}
-use Rattle.math.specs.Range.{size_of, is_finite, is_between}
-use Rattle.math.proofs.Fitting.{no_size}
+use Rattle.math.specs.Range.{size_of, is_between}
 use Rattle.math.proofs.Order.{le-sizes}
-use Rattle.math.proofs.Zeros.{equal-none}
-
--- only a NaN differs from itself
-pub ne-self : (x : Float) → ne x x ≡ is_nan x
-unfolding ne is_nan
-ne-self nan = refl
-ne-self (inf true) = refl
-ne-self (inf false) = refl
-ne-self (fin true m e) = simp (eq-eqb (m * up e * down e) (m * up e * down e) refl)
-ne-self (fin false m e) = simp (eq-eqb (m * up e * down e) (m * up e * down e) refl)
-
--- above -infinity and below +infinity
-pub between-infinities : (x : Float) → lt (inf true) x && lt x (inf false) ≡ is_finite x
-unfolding lt
-between-infinities nan = refl
-between-infinities (inf true) = refl
-between-infinities (inf false) = refl
-between-infinities (fin s m e) = refl
-
--- the size without the sign, by the tests x < 0 and x == 0
-nothing-below : (a b : ℕ) → b ≡ 0 → ltb a b ≡ true → ⊥
-nothing-below a b z h = omega (arith, ltb-true a b h)
-
-none : (d : ℕ) → 0 * 1 * d ≡ 0
-none d = ap (λ (k : ℕ). k * d) (zero-mul 1) ∙ zero-mul d
-
-pub size_below : (x : Float) → lt x zero_f ≡ true → neg x ≡ size_of x
-unfolding lt neg of_bits
-size_below nan h = absurd (false≢true h)
-size_below (inf true) h = refl
-size_below (inf false) h = absurd (false≢true h)
-size_below (fin true m e) h = refl
-size_below (fin false m e) h = absurd (nothing-below (m * up e * 1) (0 * 1 * down e) (none (down e)) h)
-
-pub size-zero : (f : Format) (x : Float) → T (fits f x) → eq x zero_f ≡ true → zero_f ≡ size_of x
-unfolding eq of_bits
-size-zero f nan t h = absurd (false≢true h)
-size-zero f (inf s) t h = absurd (false≢true h)
-size-zero f (fin s m e) t h =
-    sym (zero_of (no_size f s m e t (equal-none s m e h)))
-  where
-    zero_of : (m ≡ 0) × (e ≡ pos 0) → fin false m e ≡ fin false 0 (pos 0)
-    zero_of z = λ i. fin false (z.0 i) (z.1 i)
-
--- -a is not below 0, so a is 0, and then it is level with 0
-not-less : (a z : ℕ) → z ≡ 0 → ltb 0 (a + z) ≡ false → (eqb a z && (false || eqb a 0)) ≡ false → ⊥
-not-less a z e h k =
-    let n : a ≡ 0 = zero_of (ltb-false 0 (a + z) h) in
-    false≢true (sym k ∙ ap (λ (x : ℕ). eqb x z && eqb x 0) n ∙ ap (λ (x : ℕ). eqb 0 x && true) e)
-  where
-    zero_of : a + z ≤ 0 → a ≡ 0
-    zero_of g = omega arith
-
-pub size_above : (x : Float) → lt x zero_f ≡ false → eq x zero_f ≡ false → x ≡ size_of x
-unfolding lt eq of_bits
-size_above nan h k = refl
-size_above (inf true) h k = absurd (true≢false h)
-size_above (inf false) h k = refl
-size_above (fin false m e) h k = refl
-size_above (fin true m e) h k = absurd (not-less (m * up e * 1) (0 * 1 * down e) (none (down e)) h k)
 
 no-times : (a d : ℕ) → a ≡ 0 → a * d ≡ 0
 no-times a d z = ap (λ (b : ℕ). b * d) z ∙ zero-mul d

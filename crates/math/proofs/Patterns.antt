@@ -3,7 +3,7 @@ use Rattle.std.proofs.Common.{◌≡◌, ℕ, ◌%◌, ◌<◌, ◌≤◌, true,
 use mathlib.Core.Bool.{false≢true}
 use lib.Ieee.{Float, nan, inf, fin, binary32, is_nan, nan_bits, to_bits}
 use lib.Ieee.Bits.{nan_bits_is, nan_bits_above, to_bits-of_bits, of_bits-to_bits}
-use Rattle.math.specs.Bits.{bits_of, NanBits, PatternBack, FloatBack}
+use Rattle.math.specs.Bits.{NanBits, PatternBack, FloatBack}
 use Rattle.math.specs.Rounded.{f32}
 
 nan-only : (x : Float) → is_nan x ≡ true → x ≡ nan
@@ -18,9 +18,6 @@ number x h = rw h tt
 pub nan-bits : NanBits
 unfolding to_bits
 nan-bits = refl
-
-pub bits_of_nan : (x : Float) → is_nan x ≡ true → 0x7fc0_0000 ≡ bits_of x
-bits_of_nan x h = rw (nan-only x h) (sym nan-bits)
 
 -- a pattern is a NaN's where it is above infinity's, its sign apart
 pub reads-nan : (n : ℕ) → 0x7f80_0000 < n % 0x8000_0000 → nan ≡ f32 n

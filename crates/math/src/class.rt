@@ -6,19 +6,18 @@ ghost use Rattle.math.specs.Range.{is_finite};
 pub fn is_nan(x: f32) -> bool
     ensures { result ≡ is_nan x }
 {
-    x != x
+    x.is_nan()
 }
 
 pub fn infinity() -> f32
     ensures { result ≡ inf false }
 {
-    f32::from_bits(0x7f80_0000)
+    f32::INFINITY
 }
 
 // Neither a NaN nor an infinity.
 pub fn is_finite(x: f32) -> bool
     ensures { result ≡ is_finite x }
 {
-    let top = infinity();
-    (-top < x) & (x < top)
+    x.is_finite()
 }

@@ -18,7 +18,8 @@ fn units(n: u32) -> u32
     field - 1
 }
 
-// What q * 2^shift leaves over d, 40 binary digits a turn: for two floats seven turns at most.
+// What q * 2^shift leaves over d, 40 binary digits a turn: for two floats seven turns at most. A `for` over those
+// turns would have to work out shift / 40 and shift % 40 first.
 fn reduced(q: u32, shift: u32, d: u32) -> u32
     requires { (q < 16777216) × (0 < d) × (d < 16777216) }
     ensures { result ≡ q * 2 ^ shift % d }
@@ -49,7 +50,8 @@ fn pattern(q: u32, units: u32) -> u32
     q << units
 }
 
-// C's fmodf: x less y times the whole part of x / y, exact, with the sign of x.
+// C's fmodf: x less y times the whole part of x / y, exact, with the sign of x. Rattle's `%` calls it, and the library
+// needs no C library.
 pub fn remainder(x: f32, y: f32) -> f32
     ensures { result ≡ rem binary32 x y }
 {
@@ -63,10 +65,10 @@ pub fn remainder(x: f32, y: f32) -> f32
         return x;
     }
     if a >= 0x7f80_0000 {
-        return 0.0 / 0.0;
+        return f32::NAN;
     }
     if b == 0 {
-        return 0.0 / 0.0;
+        return f32::NAN;
     }
     let high = units(a);
     let low = units(b);

@@ -5,8 +5,8 @@ ghost use Rattle.math.specs.Range.{clamp_of, clamp01_of, max_zero_of, size_of, i
 
 use crate::pattern::of_bits;
 
-// 2^-23, Rust's f32::EPSILON.
-pub const EPSILON: f32 = 0.00000011920928955078125;
+// 2^-23.
+pub const EPSILON: f32 = f32::EPSILON;
 
 // Rust's f32::clamp, which panics where lo is above hi or either is a NaN; here lo is then tested first.
 pub fn clamp(x: f32, lo: f32, hi: f32) -> f32
@@ -36,17 +36,11 @@ pub fn max_zero(x: f32) -> f32
     if of_bits(1) <= x { x } else { 0.0 }
 }
 
-// The size of x without its sign, Rust's f32::abs.
+// The size of x without its sign.
 pub fn size(x: f32) -> f32
     ensures { result ≡ size_of x }
 {
-    if x < 0.0 {
-        -x
-    } else if x == 0.0 {
-        0.0
-    } else {
-        x
-    }
+    x.abs()
 }
 
 // The larger of x and y, and x where one of them is a NaN.

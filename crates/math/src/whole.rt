@@ -2,7 +2,8 @@
 ghost use Rattle.std.specs.Prelude.{◌≡◌};
 ghost use Rattle.math.specs.Whole.{ceil_of, whole_part_of};
 
-// Rust's `x as u32`: the whole part, 0 below 0 and for a NaN, and 4,294,967,295 from 2^32 on.
+// Rust's `x as u32`: the whole part, 0 below 0 and for a NaN, and 4,294,967,295 from 2^32 on. Std's
+// `saturating_f32_to_u32` goes by an f64, for which small processors have no instructions.
 pub fn whole_part(x: f32) -> u32
     ensures { result ≡ whole_part_of x }
 {

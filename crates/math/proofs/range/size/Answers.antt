@@ -1,14 +1,15 @@
--- `size` meets its contract. That a zero has one pattern without its sign rests on x being a value of binary32. Assumes nothing.
-use denote.Floats.{passes}
-use lib.Ieee.{binary32}
-use Rattle.math.proofs.Form.{size_below, size-zero, size_above}
+-- `size` meets its contract: it is std's, case by case. Assumes nothing.
+use mathlib.Core.Path.{◌≡◌, refl, ◌∙◌}
+use Rattle.std.specs.Float.{float_with_sign, nan, inf, fin}
+use Rattle.std.specs.Prelude.{Float, false}
+use Rattle.math.specs.Range.{size_of}
 use Rattle.math.proofs.range.size.Goals as goal
 
-pub returns-then-x : goal.returns-then-x
-returns-then-x c = size_below c.args.x c.if-x.true
+same : (x : Float) → float_with_sign false x ≡ size_of x
+unfolding float_with_sign
+same nan = refl
+same (inf s) = refl
+same (fin s m e) = refl
 
-pub returns-then-x-2 : goal.returns-then-x-2
-returns-then-x-2 c = size-zero binary32 c.args.x (passes _ c.well_formed.0.1) c.if-x-2.true
-
-pub returns-else-x-2 : goal.returns-else-x-2
-returns-else-x-2 c = size_above c.args.x c.if-x.false c.if-x-2.false
+pub returns : goal.returns
+returns c = c.abs.ensures.value ∙ same c.args.x
