@@ -81,13 +81,11 @@ pub fn fold_all(looping: Loop, duration: f32, first: Folding) -> Folding
     ensures { result ≡ folds_of 4096 (due duration first) looping duration first }
 {
     let mut p = first;
-    let mut left: u32 = 4096;
-    while 0 < left {
+    for turn in 0..4096u32 {
         if !is_due(duration, p) {
             return p;
         }
         p = fold_once(looping, duration, p);
-        left -= 1;
     }
     p
 }
