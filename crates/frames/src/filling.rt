@@ -15,10 +15,8 @@ fn times_of(frames: [Keyframe; 64], n: usize) -> [f32; 64]
     ensures { take n result ≡ times_of (take n frames) }
 {
     let mut times = [0.0f32; 64];
-    let mut i: usize = 0;
-    while i < n {
+    for i in 0..n {
         times[i] = frames[i].time;
-        i += 1;
     }
     times
 }
@@ -34,15 +32,13 @@ pub fn fill(frames: [Keyframe; 64], n: usize, times: &[f32], out: &mut [f32]) ->
     let last = frames[n - 1];
     let starts = times_of(frames, n);
     let mut unsettled: usize = 0;
-    let mut i: usize = 0;
-    while i < times.len() {
+    for i in 0..times.len() {
         let t = cut(math::max_zero(times[i]), last.time);
         let low = interval(&starts, n, t);
         let k = frames[low];
         let l = frames[low + 1];
         let found = pick(first, last, k, l, t);
         out[i] = found.value;
-        i += 1;
         unsettled += !found.settled as usize;
     }
     unsettled

@@ -10,15 +10,12 @@ fn earlier(frames: [Keyframe; 64], n: usize, time: f32) -> usize
     requires { n ≤ 64 }
     ensures { (result ≤ n) × (result ≡ earlier_of time (take n frames)) }
 {
-    let mut i: usize = 0;
-    while i < n {
-        if frames[i].time < time {
-            i += 1;
-        } else {
+    for i in 0..n {
+        if !(frames[i].time < time) {
             return i;
         }
     }
-    i
+    n
 }
 
 // Of n frames, those from p on go one place up, and k goes to p.
@@ -27,11 +24,9 @@ fn insert(frames: [Keyframe; 64], n: usize, p: usize, k: Keyframe) -> [Keyframe;
     ensures { result ≡ insert_of frames n p k }
 {
     let mut g = frames;
-    let mut j = n;
-    while p < j {
-        let f = g[j - 1];
-        g[j] = f;
-        j -= 1;
+    for j in (p..n).rev() {
+        let f = g[j];
+        g[j + 1] = f;
     }
     g[p] = k;
     g

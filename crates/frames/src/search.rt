@@ -10,10 +10,8 @@ pub fn interval(times: &[f32; 64], n: usize, t: f32) -> usize
 {
     let last = n - 1;
     let mut count: u32 = 0;
-    let mut i: usize = 1;
-    while i < last {
+    for i in 1..last {
         count += (times[i] <= t) as u32;
-        i += 1;
     }
     count as usize
 }

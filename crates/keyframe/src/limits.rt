@@ -62,15 +62,12 @@ impl Track {
             return false;
         }
         let mut last: f32 = -1.0;
-        let mut i: usize = 0;
-        while i < n {
+        for i in 0..n {
             let k = self.frames[i];
-            if k.is_within_limits() & (last < k.time) {
-                last = k.time;
-                i += 1;
-            } else {
+            if !(k.is_within_limits() & (last < k.time)) {
                 return false;
             }
+            last = k.time;
         }
         // Not by `last_time`, which would copy the track once more.
         let looping = self.looping;

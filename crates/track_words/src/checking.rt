@@ -39,8 +39,7 @@ fn frames_fit(w: &[u32; 518], n: usize) -> bool
     ensures { result ≡ sound_of w.now n }
 {
     let mut above: u32 = 0;
-    let mut i: usize = 0;
-    while i < n {
+    for i in 0..n {
         let at = 8 * i;
         let time = word_at(w, at);
         let value = word_at(w, at + 1);
@@ -49,7 +48,6 @@ fn frames_fit(w: &[u32; 518], n: usize) -> bool
                 return false;
             }
             above = time + 1;
-            i += 1;
         } else {
             return false;
         }
@@ -61,11 +59,8 @@ fn kinds_known(w: &[u32; 518], n: usize) -> bool
     requires { n ≤ 64 }
     ensures { result ≡ known_kinds (take n (track_in w.now).frames) }
 {
-    let mut i: usize = 0;
-    while i < n {
-        if words::is_kind(word_at(w, 8 * i + 2)) {
-            i += 1;
-        } else {
+    for i in 0..n {
+        if !words::is_kind(word_at(w, 8 * i + 2)) {
             return false;
         }
     }

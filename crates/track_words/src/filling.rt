@@ -16,10 +16,8 @@ fn frames_in(w: &[u32; 518], n: usize) -> [Keyframe; 64]
     ensures { take n result ≡ take n (frames_of w.now) }
 {
     let mut frames = [frames::blank(); 64];
-    let mut i: usize = 0;
-    while i < n {
+    for i in 0..n {
         frames[i] = frame_in(w, i);
-        i += 1;
     }
     frames
 }

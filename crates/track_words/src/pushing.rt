@@ -45,15 +45,12 @@ fn earlier(w: &[u32; 518], n: usize, time: f32) -> usize
     requires { n ≤ 64 }
     ensures { (result ≤ n) × (result ≡ earlier_of time (take n (frames_of w.now))) }
 {
-    let mut i: usize = 0;
-    while i < n {
-        if float_at(w, 8 * i) < time {
-            i += 1;
-        } else {
+    for i in 0..n {
+        if !(float_at(w, 8 * i) < time) {
             return i;
         }
     }
-    i
+    n
 }
 
 // Of n frames, those from p on go one place up.
@@ -62,9 +59,7 @@ fn raise(w: &mut [u32; 518], p: usize, n: usize)
     ensures { w.new ≡ raised_by w.old (8 * n) (8 * n - 8 * p) }
 {
     let low = 8 * p;
-    let mut j = 8 * n;
-    while low < j {
-        j -= 1;
+    for j in (low..8 * n).rev() {
         let x = w[j];
         w[j + 8] = x;
     }
@@ -75,11 +70,9 @@ fn put_row(w: &mut [u32; 518], p: usize, row: &[u32; 8])
     ensures { w.new ≡ row_into w.old (8 * p) row.now 8 }
 {
     let at = 8 * p;
-    let mut j: usize = 0;
-    while j < 8 {
+    for j in 0..8usize {
         let x = row[j];
         w[at + j] = x;
-        j += 1;
     }
 }
 

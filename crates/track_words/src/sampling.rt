@@ -31,10 +31,8 @@ fn interval(w: &[u32; 518], n: usize, t: f32) -> usize
     let last = n - 1;
     let top = f32::to_bits(t);
     let mut count: u32 = 0;
-    let mut i: usize = 1;
-    while i < last {
+    for i in 1..last {
         count += (word_at(w, 8 * i) <= top) as u32;
-        i += 1;
     }
     count as usize
 }

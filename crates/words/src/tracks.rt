@@ -55,12 +55,9 @@ pub fn is_known(w: LaxTrack) -> bool
     ensures { result ≡ known_track w }
 {
     let n = places(w.count as usize);
-    let mut i: usize = 0;
-    while i < n {
+    for i in 0..n {
         let k = w.frames[i];
-        if is_kind(k.easing.kind) {
-            i += 1;
-        } else {
+        if !is_kind(k.easing.kind) {
             return false;
         }
     }
@@ -91,10 +88,8 @@ fn frames_of(words: [LaxKeyframe; 64], count: usize) -> [Keyframe; 64]
 {
     let mut frames = [frames::blank(); 64];
     let n = places(count);
-    let mut i: usize = 0;
-    while i < n {
+    for i in 0..n {
         frames[i] = frame_of(words[i]);
-        i += 1;
     }
     frames
 }
@@ -138,10 +133,8 @@ fn frames_words(came: [LaxKeyframe; 64], frames: [Keyframe; 64], count: usize) -
 {
     let mut words = came;
     let n = places(count);
-    let mut i: usize = 0;
-    while i < n {
+    for i in 0..n {
         words[i] = frame_words(frames[i]);
-        i += 1;
     }
     words
 }

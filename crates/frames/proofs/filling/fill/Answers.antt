@@ -1,4 +1,4 @@
--- `fill` meets its contract. The invariant: the first i places of out hold the samples at their times, and what did not settle among them and among those that are left makes the whole count. The measure is the times that are left. Assumes nothing.
+-- `fill` meets its contract. The invariant: the first i places of out hold the samples at their times, and what did not settle among them and among those that are left makes the whole count. Assumes nothing.
 use Prim.Native.Nat.{◌<◌, ◌+◌}
 use mathlib.Core.Path.{◌≡◌, refl}
 use native.Mathlib.Omega.{arith}

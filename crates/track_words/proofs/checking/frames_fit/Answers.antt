@@ -1,4 +1,4 @@
--- `frames_fit` meets its contract. The invariant: the frames from i on, after the time whose pattern is 1 below `above`, are sound where all are. The measure is the frames that are left. Assumes nothing.
+-- `frames_fit` meets its contract. The invariant: the frames from i on, after the time whose pattern is 1 below `above`, are sound where all are. Assumes nothing.
 use Prim.Native.Nat.{◌%◌, ◌≤◌}
 use mathlib.Core.Path.{◌≡◌, refl, sym, ◌∙◌}
 use mathlib.Core.Bool.{◌&&◌}

@@ -1,4 +1,4 @@
--- `kinds_known` meets its contract. The invariant: the kinds from place i on decide. The measure is the places that are left. Assumes nothing.
+-- `kinds_known` meets its contract. The invariant: the kinds from place i on decide. Assumes nothing.
 use mathlib.Core.Path.{◌≡◌, refl, sym, ◌∙◌}
 use native.Mathlib.Omega.{arith}
 use Rattle.track_words.proofs.Sound.{kinds-step, kinds-end}
@@ -9,11 +9,11 @@ loop-i-init c = (omega arith, refl)
 
 pub loop-i-preserved : goal.loop-i-preserved
 loop-i-preserved c = let step = kinds-step c.args.w.now c.args.n c.requires c.loop-i.i (omega arith) in
-    (omega arith, sym (rw (← c.word_at.ensures, ← c.is_kind.ensures, c.if-is_kind.true) at step) ∙ c.loop-i.invariant.1)
+    (omega arith, sym (rw (← c.word_at.ensures, ← c.is_kind.ensures, c.if-not-is_kind.false) at step) ∙ c.loop-i.invariant.1)
 
-pub returns-else-is_kind : goal.returns-else-is_kind
-returns-else-is_kind c = let step = kinds-step c.args.w.now c.args.n c.requires c.loop-i.i (omega arith) in
-    sym (rw (← c.word_at.ensures, ← c.is_kind.ensures, c.if-is_kind.false) at step) ∙ c.loop-i.invariant.1
+pub returns-then-not-is_kind : goal.returns-then-not-is_kind
+returns-then-not-is_kind c = let step = kinds-step c.args.w.now c.args.n c.requires c.loop-i.i (omega arith) in
+    sym (rw (← c.word_at.ensures, ← c.is_kind.ensures, c.if-not-is_kind.true) at step) ∙ c.loop-i.invariant.1
 
 pub returns : goal.returns
 returns c = let e : c.loop-i.i ≡ c.args.n = omega arith in

@@ -1,4 +1,4 @@
--- `kinds_known` meets its contract. The invariant: the kinds from place i on decide. The measure is the places that are left. Assumes nothing.
+-- `kinds_known` meets its contract. The invariant: the kinds from place i on decide. Assumes nothing.
 use Prim.Native.Nat.{◌≤◌, ◌-◌}
 use mathlib.Core.Path.{◌≡◌}
 use lib.ListN.{take, drop}
@@ -8,6 +8,3 @@ use Rattle.track_words.proofs.checking.kinds_known.Given as goal
 
 abbrev pub invariant-loop-i : goal.invariant-loop-i
 invariant-loop-i l = (l.i ≤ l.n) × (known_kinds (drop l.i (take l.n (track_in l.w).frames)) ≡ known_kinds (take l.n (track_in l.w).frames))
-
-abbrev pub decreases-loop-i : goal.decreases-loop-i
-decreases-loop-i l = l.n - l.i

@@ -1,4 +1,4 @@
--- `frames_in` meets its contract. The invariant: the first i places hold their frames. The measure is the frames that are left. Assumes nothing.
+-- `frames_in` meets its contract. The invariant: the first i places hold their frames. Assumes nothing.
 use mathlib.Core.Path.{◌≡◌, refl, sym, ◌∙◌}
 use native.Mathlib.Omega.{arith}
 use borrow.Author.Rules.{rules}

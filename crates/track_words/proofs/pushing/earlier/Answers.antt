@@ -1,4 +1,4 @@
--- `earlier` meets its contract. The invariant: i frames are passed, and those that follow them are counted from i on. The measure is the frames that are left. Assumes nothing.
+-- `earlier` meets its contract. The invariant: i frames are passed, and those that follow them are counted from i on. Assumes nothing.
 use mathlib.Core.Path.{◌≡◌}
 use lib.Ieee.{lt}
 use native.Mathlib.Omega.{arith}
@@ -12,12 +12,12 @@ use Rattle.track_words.proofs.pushing.earlier.Goals as goal
 
 pub loop-i-preserved : goal.loop-i-preserved
 unfolding frame_in frame_from frame_at
-loop-i-preserved c = let ws = c.args.w.now in let y = lead-yes (frames_of ws) c.args.n (omega (arith, frames-long ws)) (λ (k : Keyframe). lt k.time c.args.time) c.loop-i.i (omega arith) (rw (frame-at ws c.loop-i.i (omega arith), ← c.float_at.ensures) c.if-float_at-time.true) in
+loop-i-preserved c = let ws = c.args.w.now in let y = lead-yes (frames_of ws) c.args.n (omega (arith, frames-long ws)) (λ (k : Keyframe). lt k.time c.args.time) c.loop-i.i (omega arith) (rw (frame-at ws c.loop-i.i (omega arith), ← c.float_at.ensures) c.if-not-float_at-time.false) in
     (omega arith, omega (arith, c.loop-i.invariant.1))
 
-pub returns-else-float_at-time : goal.returns-else-float_at-time
+pub returns-then-not-float_at-time : goal.returns-then-not-float_at-time
 unfolding frame_in frame_from frame_at
-returns-else-float_at-time c = let ws = c.args.w.now in let y = lead-no (frames_of ws) c.args.n (omega (arith, frames-long ws)) (λ (k : Keyframe). lt k.time c.args.time) c.loop-i.i (omega arith) (rw (frame-at ws c.loop-i.i (omega arith), ← c.float_at.ensures) c.if-float_at-time.false) in
+returns-then-not-float_at-time c = let ws = c.args.w.now in let y = lead-no (frames_of ws) c.args.n (omega (arith, frames-long ws)) (λ (k : Keyframe). lt k.time c.args.time) c.loop-i.i (omega arith) (rw (frame-at ws c.loop-i.i (omega arith), ← c.float_at.ensures) c.if-not-float_at-time.true) in
     (omega arith, omega (arith, c.loop-i.invariant.1))
 
 pub returns : goal.returns

@@ -1,4 +1,4 @@
--- `put_row` meets its contract. The invariant: j words of the row are in their places. The measure is the words that are left. Assumes nothing.
+-- `put_row` meets its contract. The invariant: j words of the row are in their places. Assumes nothing.
 use mathlib.Core.Path.{◌≡◌, refl}
 use native.Mathlib.Numerals.{add-one}
 use native.Mathlib.Omega.{arith}

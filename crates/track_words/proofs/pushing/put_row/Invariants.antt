@@ -1,4 +1,4 @@
--- `put_row` meets its contract. The invariant: j words of the row are in their places. The measure is the words that are left. Assumes nothing.
+-- `put_row` meets its contract. The invariant: j words of the row are in their places. Assumes nothing.
 use Prim.Native.Nat.{◌≤◌, ◌-◌}
 use mathlib.Core.Path.{◌≡◌}
 use Rattle.track_words.specs.Inner.{row_into}
@@ -6,6 +6,3 @@ use Rattle.track_words.proofs.pushing.put_row.Given as goal
 
 abbrev pub invariant-loop-j : goal.invariant-loop-j
 invariant-loop-j l = (l.j ≤ 8) × (l.w ≡ row_into l.initial.w l.at l.row l.j)
-
-abbrev pub decreases-loop-j : goal.decreases-loop-j
-decreases-loop-j l = 8 - l.j

@@ -1,4 +1,4 @@
--- `raise` meets its contract. The invariant: the words from j on have moved eight places up. The measure is j. Assumes nothing.
+-- `raise` meets its contract. The invariant: the words from j on have moved eight places up. Assumes nothing.
 use Prim.Native.Nat.{suc, ◌*◌, ◌-◌}
 use mathlib.Core.Path.{◌≡◌, refl}
 use native.Mathlib.Omega.{arith}

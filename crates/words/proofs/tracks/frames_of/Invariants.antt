@@ -1,4 +1,4 @@
--- `frames_of` meets its contract. The invariant: the first i places hold their frames. The measure is the frames that are left. Assumes nothing.
+-- `frames_of` meets its contract. The invariant: the first i places hold their frames. Assumes nothing.
 use Prim.Native.Nat.{◌≤◌, ◌-◌}
 use mathlib.Core.Path.{◌≡◌}
 use lib.ListN.{length}
@@ -8,6 +8,3 @@ use Rattle.words.proofs.tracks.frames_of.Given as goal
 
 abbrev pub invariant-loop-i : goal.invariant-loop-i
 invariant-loop-i l = (l.i ≤ l.n) × (length l.frames ≡ 64) × (l.frames ≡ fill_to frame_from l.words l.initial.frames l.i)
-
-abbrev pub decreases-loop-i : goal.decreases-loop-i
-decreases-loop-i l = l.n - l.i

@@ -1,4 +1,4 @@
--- `is_within_limits` meets its contract. The invariant: the frames from i on, after the last time, are fine where all are. The measure is the frames that are left. Assumes nothing.
+-- `is_within_limits` meets its contract. The invariant: the frames from i on, after the last time, are fine where all are. Assumes nothing.
 use Rattle.std.proofs.Common.{◌≡◌, ◌<◌, true, false, ◌&&◌, length, get_or, sym, refl, ◌∙◌, arith}
 use lib.Ieee.{of_bits, neg, lt}
 use Rattle.frames.specs.Limits.{frame_within, frames_within, no_frame}
@@ -27,15 +27,15 @@ unfolding of_bits neg
 loop-i-preserved c = let t = c.args.self in let h : c.loop-i.i < t.count = omega arith in
     let l : length t.frames ≡ 64 = frames-long t _ c.well_formed.0 in
     let k = get_or t.frames c.loop-i.i no_frame in
-    let f : frame_within k && lt c.loop-i.last k.time ≡ true = rw (← c.is_within_limits.ensures) c.if-is_within_limits-last.true in
+    let f : frame_within k && lt c.loop-i.last k.time ≡ true = rw (← c.is_within_limits.ensures) c.if-not-is_within_limits-last.false in
     (omega arith, sym (rw f at (after-step t.frames t.count (omega arith) c.loop-i.i c.loop-i.last h)) ∙ c.loop-i.invariant.1)
 
-pub returns-else-is_within_limits-last : goal.returns-else-is_within_limits-last
+pub returns-then-not-is_within_limits-last : goal.returns-then-not-is_within_limits-last
 unfolding of_bits neg
-returns-else-is_within_limits-last c = let t = c.args.self in let h : c.loop-i.i < t.count = omega arith in
+returns-then-not-is_within_limits-last c = let t = c.args.self in let h : c.loop-i.i < t.count = omega arith in
     let l : length t.frames ≡ 64 = frames-long t _ c.well_formed.0 in
     let k = get_or t.frames c.loop-i.i no_frame in
-    let f : frame_within k && lt c.loop-i.last k.time ≡ false = rw (← c.is_within_limits.ensures) c.if-is_within_limits-last.false in
+    let f : frame_within k && lt c.loop-i.last k.time ≡ false = rw (← c.is_within_limits.ensures) c.if-not-is_within_limits-last.true in
     broken t (omega arith) (sym (rw f at (after-step t.frames t.count (omega arith) c.loop-i.i c.loop-i.last h)) ∙ c.loop-i.invariant.1)
 
 pub returns-then-n-eq0 : goal.returns-then-n-eq0
