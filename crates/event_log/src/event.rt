@@ -49,15 +49,7 @@ fn pattern(x: f32) -> u32
 pub(crate) fn record(number: u16, event: Event) -> [u8; 8]
     ensures { result ≡ record_of number event }
 {
-    let bits = pattern(event.step());
-    [
-        (number % 256) as u8,
-        (number / 256 % 256) as u8,
-        event.kind(),
-        0,
-        (bits % 256) as u8,
-        (bits / 256 % 256) as u8,
-        (bits / 256 / 256 % 256) as u8,
-        (bits / 256 / 256 / 256 % 256) as u8,
-    ]
+    let [low, high] = number.to_le_bytes();
+    let [a, b, c, d] = pattern(event.step()).to_le_bytes();
+    [low, high, event.kind(), 0, a, b, c, d]
 }

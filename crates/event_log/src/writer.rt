@@ -27,7 +27,7 @@ fn number_behind(log: &[u8]) -> u16
         return 0;
     }
     let at = log.len() - 8;
-    let last = (log[at] as u16) + (log[at + 1] as u16) * 256;
+    let last = u16::from_le_bytes([log[at], log[at + 1]]);
     last.wrapping_add(1)
 }
 

@@ -7,28 +7,16 @@ ghost use Rattle.reader.specs.Records.{bits_in, step_in, is_wrong, event_in};
 
 use event_log::Event;
 
-fn word(a: u8, b: u8) -> u16
-    ensures { result ≡ from_low (a ∷ b ∷ []) }
-{
-    (a as u16) + (b as u16) * 256
-}
-
-fn wide_word(a: u8, b: u8, c: u8, d: u8) -> u32
-    ensures { result ≡ from_low (a ∷ b ∷ c ∷ d ∷ []) }
-{
-    (a as u32) + (b as u32) * 256 + (c as u32) * 65536 + (d as u32) * 16777216
-}
-
 pub fn number_in(bytes: [u8; 8]) -> u16
     ensures { result ≡ number_at bytes 0 }
 {
-    word(bytes[0], bytes[1])
+    u16::from_le_bytes([bytes[0], bytes[1]])
 }
 
 fn bits_in(bytes: [u8; 8]) -> u32
     ensures { result ≡ bits_in bytes }
 {
-    wide_word(bytes[4], bytes[5], bytes[6], bytes[7])
+    u32::from_le_bytes([bytes[4], bytes[5], bytes[6], bytes[7]])
 }
 
 // In seconds; 0 for a pattern that no step has.

@@ -8,4 +8,4 @@ pub returns-then-log-lt13 : goal.returns-then-log-lt13
 returns-then-log-lt13 c = simp (lt-leb _ _ c.if-log-lt13.true)
 
 pub returns : goal.returns
-returns c = rw (le-leb _ _ c.if-log-lt13.false, ← number_read c.args.log.now (length c.args.log.now - 8))
+returns c = rw (c.from_le_bytes-last.ensures, le-leb _ _ c.if-log-lt13.false, ← number_read c.args.log.now (length c.args.log.now - 8))

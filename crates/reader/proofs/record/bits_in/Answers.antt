@@ -1,7 +1,7 @@
--- `bits_in` meets its contract: four bytes, read one by one. Assumes nothing.
-use Rattle.std.proofs.Common.{◌∙◌}
+-- `bits_in` meets its contract: the library reads four bytes, the lowest first. Assumes nothing.
+use native.Mathlib.Omega.{arith}
 use Rattle.math.proofs.Bytes.{low_reads}
 use Rattle.reader.proofs.record.bits_in.Goals as goal
 
 pub returns : goal.returns
-returns c = c.wide_word.ensures ∙ low_reads 4 4 c.args.bytes
+returns c = omega (arith, c.from_le_bytes.ensures, low_reads 4 4 c.args.bytes)
