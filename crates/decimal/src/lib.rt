@@ -8,5 +8,5 @@ mod scan;
 mod spelling;
 
 pub use printing::text_of;
-pub use reading::{Decimal, read};
+pub use reading::{DecimalError, read};
 pub use spelling::Text;
