@@ -1,5 +1,8 @@
 // What is wrong with a text.
+ghost use Rattle.std.specs.Prelude.{◌≡◌};
+
 use crate::word::Word;
+use decimal::DecimalError;
 
 #[derive(Clone, Copy)]
 pub enum Expected {
@@ -28,10 +31,35 @@ pub enum Expected {
     LineEnd,
 }
 
-// line counts from 1. Where nothing was found, the line or the text ended.
+impl From<DecimalError> for Expected {
+    fn from(error: DecimalError) -> Expected {
+        match error {
+            DecimalError::Wrong => Expected::Number,
+            DecimalError::TooLong => Expected::ShorterNumber,
+            DecimalError::TooLarge => Expected::SmallerNumber,
+        }
+    }
+}
+
+// Where nothing was found, the line or the text ended.
+#[derive(Clone, Copy)]
+pub struct Mistake {
+    pub found: Word,
+    pub expected: Expected,
+}
+
+impl Mistake {
+    pub fn new(found: Word, expected: Expected) -> Mistake
+        ensures found { result.found ≡ found }
+        ensures expected { result.expected ≡ expected }
+    {
+        Mistake { found, expected }
+    }
+}
+
+// line counts from 1.
 #[derive(Clone, Copy)]
 pub struct Fault {
     pub line: u64,
-    pub found: Word,
-    pub expected: Expected,
+    pub mistake: Mistake,
 }
