@@ -1,8 +1,12 @@
 // The manual's names.
 #![tactic(auto)]
 
+use easing::Easing;
+use loop_mode::Loop;
 use refusal::Refusal;
+use tween::TweenState;
 
+// By the number of a kind, its place in `all_named`.
 const EASINGS: [&str; 38] = [
     "Linear",
     "EaseInQuad",
@@ -44,28 +48,31 @@ const EASINGS: [&str; 38] = [
     "ExpoScale",
 ];
 
-const MODES: [&str; 5] = ["Once", "Times", "Forever", "PingPong", "PingPongTimes"];
-
-const STATES: [&str; 4] = ["Idle", "Running", "Paused", "Completed"];
-
-// The name at a place of a table; nothing behind its end.
-fn name_at(table: &[&'static str], place: u32) -> &'static str {
-    table.get(place as usize).copied().unwrap_or("")
+// Of its kind, whatever its parameters.
+pub fn easing(easing: Easing) -> &'static str {
+    EASINGS
+        .get(easing.kind_number() as usize)
+        .copied()
+        .unwrap_or("")
 }
 
-// Of the kind with this number, its place in `all_named`; nothing above 37.
-pub fn easing(kind: u32) -> &'static str {
-    name_at(&EASINGS, kind)
+pub fn mode(mode: Loop) -> &'static str {
+    match mode {
+        Loop::Once => "Once",
+        Loop::Times(_) => "Times",
+        Loop::Forever => "Forever",
+        Loop::PingPong => "PingPong",
+        Loop::PingPongTimes(_) => "PingPongTimes",
+    }
 }
 
-// By its place, from 0, as in the table of modes.
-pub fn mode(place: u32) -> &'static str {
-    name_at(&MODES, place)
-}
-
-// Idle, Running, Paused, Completed, from 0.
-pub fn state(place: u32) -> &'static str {
-    name_at(&STATES, place)
+pub fn state(state: TweenState) -> &'static str {
+    match state {
+        TweenState::Idle => "Idle",
+        TweenState::Running => "Running",
+        TweenState::Paused => "Paused",
+        TweenState::Completed => "Completed",
+    }
 }
 
 pub fn refusal(refusal: Refusal) -> &'static str {
