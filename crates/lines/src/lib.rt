@@ -4,8 +4,10 @@
 
 mod expected;
 mod line;
+mod lines;
 mod word;
 
 pub use expected::{Expected, Fault, Mistake};
 pub use line::Line;
+pub use lines::Lines;
 pub use word::{Word, line_behind, word_behind};

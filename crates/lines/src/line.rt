@@ -13,6 +13,8 @@ pub struct Line<'a> {
     pub text: &'a [u8],
     // Where the next word is looked for.
     pub place: usize,
+    // Which line it is, from 1.
+    pub number: u64,
 }
 
 // A whole number: digits alone.

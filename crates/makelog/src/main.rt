@@ -24,7 +24,7 @@ use lines::Fault;
 use refusal::Refusal;
 use script::{Cause, ScriptError};
 use sink::WriteError;
-use tools::{STDERR_FILENO, say};
+use tools::STDERR_FILENO;
 
 // Whether the words are there to work on.
 fn is_called(rt: &HostRuntime) -> bool {
@@ -56,11 +56,9 @@ fn wrong(rt: &HostRuntime, text: &[u8], fault: Fault) {
 
 fn refused(rt: &HostRuntime, line: u64, refusal: Refusal) {
     tools::say_argument(rt, STDERR_FILENO, 1);
-    say(STDERR_FILENO, b", line ");
-    tools::say_number(STDERR_FILENO, line);
-    say(STDERR_FILENO, b": refused ");
+    let _ = eprint!(rt; ", line {line}: refused ");
     tools::say_refusal(STDERR_FILENO, refusal);
-    say(STDERR_FILENO, b"\n");
+    let _ = eprintln!(rt);
     tools::end_refused(refusal);
 }
 
@@ -73,14 +71,12 @@ fn write(rt: &HostRuntime, text: &[u8]) {
     drop(file);
     match written {
         Ok(records) => {
-            say(1, b"records ");
-            tools::say_number(1, records);
-            say(1, b"\nend ok\n");
+            let _ = println!(rt; "records {records}\nend ok");
         }
         Err(WriteError::Unread) => {}
         Err(WriteError::Failed) => {
             tools::say_argument(rt, STDERR_FILENO, 2);
-            say(STDERR_FILENO, b": the log can't be written\n");
+            let _ = eprintln!(rt; ": the log can't be written");
             tools::end_unreadable();
         }
     }

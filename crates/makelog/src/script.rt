@@ -1,7 +1,7 @@
 // A whole script, before anything is written.
 use crate::order::{Order, read_order};
 use event_log::{Event, Logged};
-use lines::{Expected, Line, Mistake};
+use lines::{Expected, Line, Lines, Mistake};
 use refusal::Refusal;
 
 #[derive(Clone, Copy)]
@@ -59,15 +59,11 @@ fn judge_line(line: Line<'_>, behind: bool) -> Result<bool, Cause> {
 
 pub fn judge(text: &[u8]) -> Result<(), ScriptError> {
     let mut behind = false;
-    let mut line: u64 = 1;
-    let mut place: usize = 0;
-    while place < text.len() {
-        behind = judge_line(Line { text, place }, behind).map_err(|cause| ScriptError {
-            line,
+    for line in Lines::of(text) {
+        behind = judge_line(line, behind).map_err(|cause| ScriptError {
+            line: line.number,
             cause,
         })?;
-        place = lines::line_behind(text, place);
-        line += 1;
     }
     Ok(())
 }

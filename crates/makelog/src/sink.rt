@@ -1,7 +1,7 @@
 // The log, written out a buffer at a time.
 use crate::order::{Order, read_order};
 use event_log::{Event, Logged};
-use lines::{Line, Mistake};
+use lines::{Lines, Mistake};
 use std::fs::File;
 use std::io::{Error, ErrorKind, Write};
 
@@ -130,10 +130,8 @@ impl<'a> Sink<'a> {
 pub fn write_log(file: &mut File, text: &[u8]) -> Result<u64, WriteError> {
     let mut buffer = io::large_buffer();
     let mut sink = Sink::begin(file, &mut buffer);
-    let mut place: usize = 0;
-    while place < text.len() {
-        sink.obey(read_order(Line { text, place })?)?;
-        place = lines::line_behind(text, place);
+    for line in Lines::of(text) {
+        sink.obey(read_order(line)?)?;
     }
     sink.flush()?;
     Ok(sink.records)

@@ -7,7 +7,7 @@ ghost use Rattle.tween.specs.Calls.{reset_of};
 ghost use Rattle.ramp.specs.Ramps.{IsReset};
 
 use crate::settings::Settings;
-use lines::{Fault, Line, Word};
+use lines::{Fault, Lines, Word};
 use tween::{Changed, Tween};
 
 // A ramp that breaks a limit is handed on as it is: every call refuses it.
@@ -28,21 +28,20 @@ pub fn parse_ramp(text: &[u8]) -> Result<Tween, Fault>
     ensures { IsReset result }
 {
     let mut settings = Settings::none();
-    let mut line: u64 = 1;
-    let mut place: usize = 0;
-    while place < text.len() {
-        settings
-            .take(Line { text, place })
-            .map_err(|mistake| Fault { line, mistake })?;
-        place = lines::line_behind(text, place);
-        line += 1;
+    let mut lines = Lines::of(text);
+    for line in &mut lines {
+        settings.take(line).map_err(|mistake| Fault {
+            line: line.number,
+            mistake,
+        })?;
     }
-    let text_end = Word {
-        from: place,
-        to: place,
+    let end = Word {
+        from: lines.place,
+        to: lines.place,
     };
-    let tween = settings
-        .tween(text_end)
-        .map_err(|mistake| Fault { line, mistake })?;
+    let tween = settings.tween(end).map_err(|mistake| Fault {
+        line: lines.number,
+        mistake,
+    })?;
     Ok(reset(tween))
 }

@@ -1,7 +1,6 @@
 // The words that a program is called with.
 use crate::ends::end_unreadable;
 use crate::files::argument;
-use crate::quoting::Plain;
 use crate::saying::{STDERR_FILENO, STDOUT_FILENO, say, say_text};
 use crate::version::VERSION;
 use std::env::FillError;
@@ -24,7 +23,8 @@ fn is_missing(rt: &HostRuntime, least: usize) -> bool {
 }
 
 fn say_version(name: &[u8]) {
-    say_text(STDOUT_FILENO, format_args!("{} {VERSION}\n", Plain(name)));
+    say(STDOUT_FILENO, name);
+    say_text(STDOUT_FILENO, format_args!(" {VERSION}\n"));
 }
 
 // Whether there are from `least` to `most` words, the program's own among them. Where not, the help, the version
