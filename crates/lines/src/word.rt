@@ -26,11 +26,11 @@ impl Word {
 }
 
 fn is_blank(b: u8) -> bool {
-    (b == b' ') | (b == b'\t') | (b == b'\r')
+    matches!(b, b' ' | b'\t' | b'\r')
 }
 
 fn ends_line(b: u8) -> bool {
-    (b == b'\n') | (b == b'#')
+    matches!(b, b'\n' | b'#')
 }
 
 // The first place from `from` on whose byte is sought, or the end.

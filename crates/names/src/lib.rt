@@ -50,10 +50,7 @@ const EASINGS: [&str; 38] = [
 
 // Of its kind, whatever its parameters.
 pub fn easing(easing: Easing) -> &'static str {
-    EASINGS
-        .get(easing.kind_number() as usize)
-        .copied()
-        .unwrap_or("")
+    EASINGS[easing.kind_number() as usize]
 }
 
 pub fn mode(mode: Loop) -> &'static str {

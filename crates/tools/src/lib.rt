@@ -10,6 +10,7 @@ mod quoting;
 mod ramps;
 mod reasons;
 mod saying;
+mod shown;
 mod version;
 
 pub use calls::{has_argument, has_words};

@@ -1,8 +1,9 @@
 // The ramp that an argument names.
 use crate::explain::say_fault;
 use crate::files::read_text;
-use crate::saying::{say, say_float, say_name, say_number};
-use easing::{Easing, Params, params_of};
+use crate::saying::say_text;
+use crate::shown::InRamp;
+use easing::Easing;
 use loop_mode::Loop;
 use ramp::parse_ramp;
 use std::rt::HostRuntime;
@@ -24,50 +25,21 @@ pub fn read_ramp(rt: &HostRuntime, argument: usize) -> Option<Tween> {
 
 // An easing as it stands in a ramp: its name and its parameters.
 pub fn say_easing(fd: i32, easing: Easing) {
-    let Params {
-        a,
-        b,
-        c,
-        d,
-        count,
-        ..
-    } = params_of(easing);
-    say_name(fd, names::easing(easing));
-    for x in [a, b, c, d].iter().take(ramp::decimals(easing)) {
-        say(fd, b" ");
-        say_float(fd, *x);
-    }
-    if ramp::has_count(easing) {
-        say(fd, b" ");
-        say_number(fd, count as u64);
-    }
+    say_text(fd, InRamp(easing));
 }
 
 // A mode as it stands in a ramp: its name, and its passes.
 pub fn say_mode(fd: i32, mode: Loop) {
-    say_name(fd, names::mode(mode));
-    if let Loop::Times(passes) | Loop::PingPongTimes(passes) = mode {
-        say(fd, b" ");
-        say_number(fd, passes as u64);
-    }
-}
-
-fn say_setting(fd: i32, name: &[u8], x: f32) {
-    say(fd, name);
-    say_float(fd, x);
-    say(fd, b"\n");
+    say_text(fd, InRamp(mode));
 }
 
 // A ramp as it is understood, a setting to a line.
 pub fn say_ramp(fd: i32, t: Tween) {
-    say_setting(fd, b"ramp start ", t.start);
-    say_setting(fd, b"ramp end ", t.end);
-    say_setting(fd, b"ramp duration ", t.duration);
-    say_setting(fd, b"ramp delay ", t.delay);
-    say_setting(fd, b"ramp scale ", t.time_scale);
-    say(fd, b"ramp mode ");
-    say_mode(fd, t.looping);
-    say(fd, b"\nramp easing ");
-    say_easing(fd, t.easing);
-    say(fd, b"\n");
+    say_text(fd, format_args!("ramp start {}\n", InRamp(t.start)));
+    say_text(fd, format_args!("ramp end {}\n", InRamp(t.end)));
+    say_text(fd, format_args!("ramp duration {}\n", InRamp(t.duration)));
+    say_text(fd, format_args!("ramp delay {}\n", InRamp(t.delay)));
+    say_text(fd, format_args!("ramp scale {}\n", InRamp(t.time_scale)));
+    say_text(fd, format_args!("ramp mode {}\n", InRamp(t.looping)));
+    say_text(fd, format_args!("ramp easing {}\n", InRamp(t.easing)));
 }

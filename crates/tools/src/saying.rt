@@ -1,4 +1,5 @@
 // Words and numbers on a descriptor.
+use crate::shown::InRamp;
 use std::fmt::{self, Write};
 
 pub const STDOUT_FILENO: i32 = 1;
@@ -31,10 +32,7 @@ pub fn say_number(fd: i32, n: u64) {
 
 // So that it reads back.
 pub fn say_float(fd: i32, x: f32) {
-    let text = decimal::text_of(x);
-    let bytes = text.bytes;
-    let length = text.length;
-    say(fd, &bytes[..length]);
+    say_text(fd, InRamp(x));
 }
 
 pub fn say_name(fd: i32, name: &str) {
