@@ -3,9 +3,11 @@
 #![tactic(auto)]
 
 mod expected;
-mod numbers;
+mod line;
+mod lines;
 mod word;
 
-pub use expected::{Expected, Fault};
-pub use numbers::{Counted, Valued, count, value};
-pub use word::{Word, is_name, line_behind, word_behind};
+pub use expected::{Expected, Fault, Mistake};
+pub use line::Line;
+pub use lines::Lines;
+pub use word::{Word, line_behind, word_behind};

@@ -1,5 +1,6 @@
 // Where words stand.
-ghost use Rattle.std.specs.Prelude.{◌≤◌, ◌<◌, length};
+ghost use Rattle.std.specs.Prelude.{◌≡◌, ◌==◌, ◌≤◌, ◌<◌, length};
+ghost use Rattle.std.specs.List.{slice_range};
 ghost use Rattle.lines.specs.Places.{Within, Onward};
 
 // The bytes of a text from `from` on, before `to`. Where both are equal there is no word.
@@ -10,47 +11,38 @@ pub struct Word {
 }
 
 impl Word {
-    pub fn is_missing(self) -> bool {
+    pub fn is_missing(self) -> bool
+        ensures { result ≡ (self.from == self.to) }
+    {
         self.from == self.to
+    }
+
+    // Nothing where it is no word of the text.
+    pub fn bytes(self, text: &[u8]) -> &[u8]
+        ensures { Within text.now self → result.now ≡ slice_range text.now self.from self.to }
+    {
+        text.get(self.from..self.to).unwrap_or(&[])
     }
 }
 
 fn is_blank(b: u8) -> bool {
-    (b == b' ') | (b == b'\t') | (b == b'\r')
+    matches!(b, b' ' | b'\t' | b'\r')
 }
 
 fn ends_line(b: u8) -> bool {
-    (b == b'\n') | (b == b'#')
+    matches!(b, b'\n' | b'#')
 }
 
-// The first place from `from` on that is not blank, or the end.
-fn behind_blanks(text: &[u8], from: usize) -> usize
-    requires { from ≤ length text.now }
+// The first place from `from` on whose byte is sought, or the end.
+fn first_place<F: Fn(u8) -> bool>(text: &[u8], from: usize, is_sought: F) -> usize
+    requires from { from ≤ length text.now }
+    requires sought { F.IsAlwaysCallable is_sought }
     ensures { (from ≤ result) × (result ≤ length text.now) }
 {
-    let mut i = from;
-    while i < text.len() {
-        if !is_blank(text[i]) {
-            return i;
-        }
-        i += 1;
+    match text[from..].iter().position(|b| is_sought(*b)) {
+        Some(n) => from + n,
+        None => text.len(),
     }
-    i
-}
-
-// Where the word ends that stands at `from`.
-fn behind_word(text: &[u8], from: usize) -> usize
-    requires { from ≤ length text.now }
-    ensures { (from ≤ result) × (result ≤ length text.now) }
-{
-    let mut i = from;
-    while i < text.len() {
-        if is_blank(text[i]) | ends_line(text[i]) {
-            return i;
-        }
-        i += 1;
-    }
-    i
 }
 
 // The next word of a line, at or behind a place of it.
@@ -63,8 +55,8 @@ pub fn word_behind(text: &[u8], place: usize) -> Word
             to: text.len(),
         };
     }
-    let from = behind_blanks(text, place);
-    let to = behind_word(text, from);
+    let from = first_place(text, place, |b| !is_blank(b));
+    let to = first_place(text, from, |b| is_blank(b) | ends_line(b));
     Word { from, to }
 }
 
@@ -72,41 +64,9 @@ pub fn word_behind(text: &[u8], place: usize) -> Word
 pub fn line_behind(text: &[u8], place: usize) -> usize
     ensures { Onward text.now place result }
 {
-    let mut i = place;
-    while i < text.len() {
-        if text[i] == b'\n' {
-            return i + 1;
-        }
-        i += 1;
+    if place >= text.len() {
+        return text.len();
     }
-    text.len()
-}
-
-// Whether a word is a name: its bytes, then blanks.
-pub fn is_name(text: &[u8], word: Word, name: [u8; 20]) -> bool {
-    let from = word.from;
-    let to = word.to;
-    if to > text.len() {
-        return false;
-    }
-    if from >= to {
-        return false;
-    }
-    if to - from > 20 {
-        return false;
-    }
-    let mut i: usize = 0;
-    while i < 20 {
-        if i < to - from {
-            if text[from + i] != name[i] {
-                return false;
-            }
-        } else {
-            if name[i] != b' ' {
-                return false;
-            }
-        }
-        i += 1;
-    }
-    true
+    let end = first_place(text, place, |b| b == b'\n');
+    if end == text.len() { end } else { end + 1 }
 }

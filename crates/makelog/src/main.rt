@@ -20,9 +20,11 @@ mod order;
 mod script;
 mod sink;
 
-use script::Judged;
-use std::fs::File;
-use tools::{STDERR_FILENO, say};
+use lines::Fault;
+use refusal::Refusal;
+use script::{Cause, ScriptError};
+use sink::WriteError;
+use tools::STDERR_FILENO;
 
 // Whether the words are there to work on.
 fn is_called(rt: &HostRuntime) -> bool {
@@ -47,52 +49,47 @@ fn is_called(rt: &HostRuntime) -> bool {
     )
 }
 
-fn wrong(rt: &HostRuntime, text: &[u8], fault: lines::Fault) {
+fn wrong(rt: &HostRuntime, text: &[u8], fault: Fault) {
     tools::say_fault(rt, 1, text, fault);
     tools::end_unreadable();
 }
 
-fn refused(rt: &HostRuntime, line: u64, number: u32) {
+fn refused(rt: &HostRuntime, line: u64, refusal: Refusal) {
     tools::say_argument(rt, STDERR_FILENO, 1);
-    say(STDERR_FILENO, b", line ");
-    tools::say_number(STDERR_FILENO, line);
-    say(STDERR_FILENO, b": refused ");
-    tools::say_refusal(STDERR_FILENO, number);
-    say(STDERR_FILENO, b"\n");
-    tools::end_refused(number);
+    let _ = eprint!(rt; ", line {line}: refused ");
+    tools::say_refusal(STDERR_FILENO, refusal);
+    let _ = eprintln!(rt);
+    tools::end_refused(refusal);
 }
 
-// Opens the log for writing; None where it can't.
-fn opened(rt: &HostRuntime) -> Option<File> {
-    tools::open_overwrite(rt, 2)
-}
-
-fn written(rt: &HostRuntime, text: &[u8]) {
-    let Some(mut file) = opened(rt) else {
+fn write(rt: &HostRuntime, text: &[u8]) {
+    let Some(mut file) = tools::open_overwrite(rt, 2) else {
         tools::end_unreadable();
         return;
     };
-    let out = sink::write_log(&mut file, text);
+    let written = sink::write_log(&mut file, text);
     drop(file);
-    if out.unread {
-        return;
+    match written {
+        Ok(records) => {
+            let _ = println!(rt; "records {records}\nend ok");
+        }
+        Err(WriteError::Unread) => {}
+        Err(WriteError::Failed) => {
+            tools::say_argument(rt, STDERR_FILENO, 2);
+            let _ = eprintln!(rt; ": the log can't be written");
+            tools::end_unreadable();
+        }
     }
-    if out.failed {
-        tools::say_argument(rt, STDERR_FILENO, 2);
-        say(STDERR_FILENO, b": the log can't be written\n");
-        tools::end_unreadable();
-        return;
-    }
-    say(1, b"records ");
-    tools::say_number(1, out.records);
-    say(1, b"\nend ok\n");
 }
 
 fn run(rt: &HostRuntime, text: &[u8]) {
-    match script::judge(text) {
-        Judged::Right => written(rt, text),
-        Judged::Wrong(fault) => wrong(rt, text, fault),
-        Judged::Refused(line, number) => refused(rt, line, number),
+    let Err(ScriptError { line, cause }) = script::judge(text) else {
+        write(rt, text);
+        return;
+    };
+    match cause {
+        Cause::Wrong(mistake) => wrong(rt, text, Fault { line, mistake }),
+        Cause::Refused(refusal) => refused(rt, line, refusal),
     }
 }
 
@@ -100,12 +97,9 @@ fn main(rt: HostRuntime) {
     if !is_called(&rt) {
         return;
     }
-    let mut text = io::large_buffer();
-    let filled = tools::read_text(&rt, 1, &mut text);
-    if filled.failed {
-        tools::end_unreadable();
-        return;
+    let mut buffer = io::large_buffer();
+    match tools::read_text(&rt, 1, &mut buffer) {
+        Some(text) => run(&rt, text),
+        None => tools::end_unreadable(),
     }
-    let length = filled.bytes;
-    run(&rt, &text[..length]);
 }

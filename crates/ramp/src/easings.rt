@@ -1,124 +1,41 @@
 // An easing: its name, and its parameters behind it.
-use easing::{Easing, KINDS, Params};
-use lines::{Counted, Expected, Valued, Word};
-use words::LaxEasing;
+use easing::{Easing, Params, params_of};
+use lines::{Expected, Line, Mistake};
 
-#[derive(Clone, Copy)]
-pub enum Eased {
-    // The easing, and where its last word ends.
-    Read(LaxEasing, usize),
-    Wrong(Word, Expected),
+// The parameters that its kind has are 1, the others 0.
+fn had(easing: Easing) -> Params {
+    params_of(Easing::of_number(easing.kind_number(), Params::new(1.0, 1.0, 1.0, 1.0, 1)))
 }
 
-// Its number; KINDS where there is none.
-fn kind_named(text: &[u8], word: Word) -> u32 {
-    let many = KINDS;
-    let mut kind: u32 = 0;
-    while kind < many {
-        if lines::is_name(text, word, names::easing(kind)) {
-            return kind;
-        }
-        kind += 1;
-    }
-    kind
+// How many of its kind's parameters are decimals. They stand in a, b, c, d, in this order.
+pub fn decimals(easing: Easing) -> usize {
+    let p = had(easing);
+    [p.a, p.b, p.c, p.d].iter().filter(|x| **x > 0.0).count()
 }
 
-// The parameters that a kind has are 1, the others 0.
-fn had(kind: u32) -> Params {
-    easing::params_of(Easing::of_number(kind, Params::new(1.0, 1.0, 1.0, 1.0, 1)))
+// Whether the last parameter of its kind is a whole number.
+pub fn has_count(easing: Easing) -> bool {
+    had(easing).count > 0
 }
 
-// How many of a kind's parameters are decimals. They stand in a, b, c, d, in this order.
-pub fn decimals(kind: u32) -> u32 {
-    let p = had(kind);
-    if p.d > 0.0 {
-        return 4;
+// The parameters of an easing of this kind.
+fn read_parameters(kind: Easing, line: &mut Line<'_>) -> Result<Params, Mistake> {
+    let mut numbers = [0.0f32; 4];
+    for x in numbers.iter_mut().take(decimals(kind)) {
+        *x = line.value()?;
     }
-    if p.c > 0.0 {
-        return 3;
-    }
-    if p.b > 0.0 {
-        return 2;
-    }
-    if p.a > 0.0 {
-        return 1;
-    }
-    0
+    let count = if has_count(kind) { line.count()? } else { 0 };
+    let [a, b, c, d] = numbers;
+    Ok(Params::new(a, b, c, d, count))
 }
 
-// Whether the last parameter of a kind is a whole number.
-pub fn has_count(kind: u32) -> bool {
-    had(kind).count > 0
-}
-
-fn with_parameter(e: LaxEasing, place: u32, x: f32) -> LaxEasing {
-    let mut w = e;
-    match place {
-        0 => {
-            w.a = x;
-        }
-        1 => {
-            w.b = x;
-        }
-        2 => {
-            w.c = x;
-        }
-        _ => {
-            w.d = x;
-        }
-    }
-    w
-}
-
-fn with_decimals(e: LaxEasing, text: &[u8], behind: usize) -> Eased {
-    let mut w = e;
-    let mut to = behind;
-    let many = decimals(e.kind);
-    let mut i: u32 = 0;
-    while i < many {
-        let word = lines::word_behind(text, to);
-        match lines::value(text, word) {
-            Valued::Value(x) => {
-                w = with_parameter(w, i, x);
-                to = word.to;
-                i += 1;
-            }
-            Valued::Wrong(expected) => return Eased::Wrong(word, expected),
-        }
-    }
-    Eased::Read(w, to)
-}
-
-fn with_count(e: LaxEasing, text: &[u8], behind: usize) -> Eased {
-    if !has_count(e.kind) {
-        return Eased::Read(e, behind);
-    }
-    let word = lines::word_behind(text, behind);
-    match lines::count(text, word) {
-        Counted::Number(n) => {
-            let mut w = e;
-            w.count = n;
-            Eased::Read(w, word.to)
-        }
-        Counted::Wrong => Eased::Wrong(word, Expected::Count),
-    }
-}
-
-pub fn easing_at(text: &[u8], word: Word) -> Eased {
-    let kind = kind_named(text, word);
-    if kind >= KINDS {
-        return Eased::Wrong(word, Expected::Easing);
-    }
-    let bare = LaxEasing {
-        kind,
-        a: 0.0,
-        b: 0.0,
-        c: 0.0,
-        d: 0.0,
-        count: 0,
-    };
-    match with_decimals(bare, text, word.to) {
-        Eased::Read(e, to) => with_count(e, text, to),
-        Eased::Wrong(found, expected) => Eased::Wrong(found, expected),
-    }
+pub fn read_easing(line: &mut Line<'_>) -> Result<Easing, Mistake> {
+    let word = line.word();
+    let name = word.bytes(line.text);
+    let named = Easing::all_named()
+        .into_iter()
+        .find(|e| names::easing(*e).as_bytes() == name);
+    let kind = named.ok_or(Mistake::new(word, Expected::Easing))?;
+    let parameters = read_parameters(kind, line)?;
+    Ok(Easing::of_number(kind.kind_number(), parameters))
 }

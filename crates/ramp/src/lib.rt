@@ -6,5 +6,4 @@ mod parse;
 mod settings;
 
 pub use easings::{decimals, has_count};
-pub use parse::{Parsed, parse_ramp};
-pub use settings::has_passes;
+pub use parse::parse_ramp;

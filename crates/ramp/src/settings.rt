@@ -1,139 +1,95 @@
-// One setting of a ramp.
-use crate::easings::{Eased, easing_at};
-use lines::{Counted, Expected, Valued, Word};
-use words::{LaxLoop, LaxTween};
+// The settings of a ramp.
+use crate::easings::read_easing;
+use easing::Easing;
+use lines::{Expected, Line, Mistake, Word};
+use loop_mode::Loop;
+use tween::Tween;
 
+// Those that were given.
 #[derive(Clone, Copy)]
-pub enum Setting {
-    // The ramp with it, and where its last word ends.
-    Set(LaxTween, usize),
-    Wrong(Word, Expected),
+pub struct Settings {
+    start: Option<f32>,
+    end: Option<f32>,
+    duration: Option<f32>,
+    delay: Option<f32>,
+    scale: Option<f32>,
+    mode: Option<Loop>,
+    easing: Option<Easing>,
 }
 
-pub const START: u32 = 1;
-
-pub const END: u32 = 2;
-
-pub const DURATION: u32 = 4;
-
-const DELAY: u32 = 8;
-
-const SCALE: u32 = 16;
-
-const MODE: u32 = 32;
-
-const EASING: u32 = 64;
-
-// The bit of a setting, by its name; 0 where there is none.
-pub fn setting_named(text: &[u8], word: Word) -> u32 {
-    if lines::is_name(text, word, *b"start               ") {
-        return START;
+fn read_mode(line: &mut Line<'_>) -> Result<Loop, Mistake> {
+    let word = line.word();
+    match word.bytes(line.text) {
+        b"Once" => Ok(Loop::Once),
+        b"Times" => Ok(Loop::Times(line.count()?)),
+        b"Forever" => Ok(Loop::Forever),
+        b"PingPong" => Ok(Loop::PingPong),
+        b"PingPongTimes" => Ok(Loop::PingPongTimes(line.count()?)),
+        _ => Err(Mistake::new(word, Expected::Mode)),
     }
-    if lines::is_name(text, word, *b"end                 ") {
-        return END;
-    }
-    if lines::is_name(text, word, *b"duration            ") {
-        return DURATION;
-    }
-    if lines::is_name(text, word, *b"delay               ") {
-        return DELAY;
-    }
-    if lines::is_name(text, word, *b"scale               ") {
-        return SCALE;
-    }
-    if lines::is_name(text, word, *b"mode                ") {
-        return MODE;
-    }
-    if lines::is_name(text, word, *b"easing              ") {
-        return EASING;
-    }
-    0
 }
 
-fn with_number(t: LaxTween, setting: u32, x: f32) -> LaxTween {
-    let mut w = t;
-    match setting {
-        START => {
-            w.start = x;
-        }
-        END => {
-            w.end = x;
-        }
-        DURATION => {
-            w.duration = x;
-        }
-        DELAY => {
-            w.delay = x;
-        }
-        _ => {
-            w.time_scale = x;
+// Gives a setting what stands behind its name, once.
+fn give<T: Drop, F: FnOnce(&mut Line<'_>) -> Result<T, Mistake>>(
+    setting: &mut Option<T>,
+    name: Word,
+    line: &mut Line<'_>,
+    read: F,
+) -> Result<(), Mistake>
+    requires { F.IsAlwaysCallable read }
+{
+    if setting.is_some() {
+        return Err(Mistake::new(name, Expected::NewSetting));
+    }
+    *setting = Some(read(line)?);
+    line.end()
+}
+
+impl Settings {
+    pub fn none() -> Settings {
+        Settings {
+            start: None,
+            end: None,
+            duration: None,
+            delay: None,
+            scale: None,
+            mode: None,
+            easing: None,
         }
     }
-    w
-}
 
-fn number_set(t: LaxTween, setting: u32, text: &[u8], word: Word) -> Setting {
-    match lines::value(text, word) {
-        Valued::Value(x) => Setting::Set(with_number(t, setting, x), word.to),
-        Valued::Wrong(expected) => Setting::Wrong(word, expected),
-    }
-}
-
-fn mode_named(text: &[u8], word: Word) -> u32 {
-    let mut mode: u32 = 0;
-    while mode < 5 {
-        if lines::is_name(text, word, names::mode(mode)) {
-            return mode;
+    // Takes the setting that a line gives, if it gives one.
+    pub fn take(&mut self, mut line: Line<'_>) -> Result<(), Mistake> {
+        let name = line.word();
+        if name.is_missing() {
+            return Ok(());
         }
-        mode += 1;
-    }
-    mode
-}
-
-// Whether a mode has a number of passes: Times and PingPongTimes.
-pub fn has_passes(mode: u32) -> bool {
-    (mode == 1) | (mode == 4)
-}
-
-fn with_mode(t: LaxTween, mode: u32, passes: u32) -> LaxTween {
-    let mut w = t;
-    let looping = LaxLoop { mode, passes };
-    w.looping = looping;
-    w
-}
-
-fn mode_set(t: LaxTween, text: &[u8], word: Word) -> Setting {
-    let mode = mode_named(text, word);
-    if mode > 4 {
-        return Setting::Wrong(word, Expected::Mode);
-    }
-    if !has_passes(mode) {
-        return Setting::Set(with_mode(t, mode, 0), word.to);
-    }
-    let passes = lines::word_behind(text, word.to);
-    match lines::count(text, passes) {
-        Counted::Number(n) => Setting::Set(with_mode(t, mode, n), passes.to),
-        Counted::Wrong => Setting::Wrong(passes, Expected::Count),
-    }
-}
-
-fn easing_set(t: LaxTween, text: &[u8], word: Word) -> Setting {
-    match easing_at(text, word) {
-        Eased::Read(easing, to) => {
-            let mut w = t;
-            w.easing = easing;
-            Setting::Set(w, to)
+        match name.bytes(line.text) {
+            b"start" => give(&mut self.start, name, &mut line, |l| l.value()),
+            b"end" => give(&mut self.end, name, &mut line, |l| l.value()),
+            b"duration" => give(&mut self.duration, name, &mut line, |l| l.value()),
+            b"delay" => give(&mut self.delay, name, &mut line, |l| l.value()),
+            b"scale" => give(&mut self.scale, name, &mut line, |l| l.value()),
+            b"mode" => give(&mut self.mode, name, &mut line, read_mode),
+            b"easing" => give(&mut self.easing, name, &mut line, read_easing),
+            _ => Err(Mistake::new(name, Expected::Setting)),
         }
-        Eased::Wrong(found, expected) => Setting::Wrong(found, expected),
     }
-}
 
-pub fn set(t: LaxTween, setting: u32, text: &[u8], word: Word) -> Setting {
-    if setting == MODE {
-        return mode_set(t, text, word);
+    // What has to be given was given, before a text's end.
+    pub fn tween(self, text_end: Word) -> Result<Tween, Mistake> {
+        let start = self.start.ok_or(Mistake::new(text_end, Expected::Start))?;
+        let end = self.end.ok_or(Mistake::new(text_end, Expected::End))?;
+        let duration = self
+            .duration
+            .ok_or(Mistake::new(text_end, Expected::Duration))?;
+        Ok(Tween {
+            duration,
+            easing: self.easing.unwrap_or(Easing::Linear),
+            delay: self.delay.unwrap_or(0.0),
+            time_scale: self.scale.unwrap_or(1.0),
+            looping: self.mode.unwrap_or(Loop::Once),
+            ..Tween::new(start, end)
+        })
     }
-    if setting == EASING {
-        return easing_set(t, text, word);
-    }
-    number_set(t, setting, text, word)
 }

@@ -1,29 +1,20 @@
 // The words that a program is called with.
 use crate::ends::end_unreadable;
 use crate::files::argument;
-use crate::saying::{STDERR_FILENO, STDOUT_FILENO, say};
+use crate::saying::{STDERR_FILENO, STDOUT_FILENO, say, say_text};
 use crate::version::VERSION;
-use lines::{Word, is_name};
 use std::env::FillError;
 use std::rt::{Env, HostRuntime};
 
 // Whether there is an argument i, of any length.
 pub fn has_argument(rt: &HostRuntime, i: usize) -> bool {
-    match rt.arg(i, &mut []) {
-        Err(FillError::NotPresent) => false,
-        _ => true,
-    }
+    !matches!(rt.arg(i, &mut []), Err(FillError::NotPresent))
 }
 
 // Whether the program is called with one word, and which. A file of that name is found behind `./`.
-fn is_asked(rt: &HostRuntime, name: [u8; 20]) -> bool {
-    let mut word = io::buffer();
-    let length = argument(rt, 1, &mut word);
-    let whole = Word {
-        from: 0,
-        to: length,
-    };
-    has_argument(rt, 1) & !has_argument(rt, 2) & is_name(&word[..length], whole, name)
+fn is_asked(rt: &HostRuntime, word: &[u8]) -> bool {
+    let mut buffer = io::buffer();
+    has_argument(rt, 1) & !has_argument(rt, 2) & (argument(rt, 1, &mut buffer) == word)
 }
 
 // Whether there are fewer words than that.
@@ -33,9 +24,7 @@ fn is_missing(rt: &HostRuntime, least: usize) -> bool {
 
 fn say_version(name: &[u8]) {
     say(STDOUT_FILENO, name);
-    say(STDOUT_FILENO, b" ");
-    say(STDOUT_FILENO, &VERSION);
-    say(STDOUT_FILENO, b"\n");
+    say_text(STDOUT_FILENO, format_args!(" {VERSION}\n"));
 }
 
 // Whether there are from `least` to `most` words, the program's own among them. Where not, the help, the version
@@ -48,11 +37,11 @@ pub fn has_words(
     least: usize,
     most: usize,
 ) -> bool {
-    if is_asked(rt, *b"--version           ") {
+    if is_asked(rt, b"--version") {
         say_version(name);
         return false;
     }
-    if is_asked(rt, *b"--help              ") {
+    if is_asked(rt, b"--help") {
         say(STDOUT_FILENO, usage);
         say(STDOUT_FILENO, help);
         say_version(name);

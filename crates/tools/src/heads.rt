@@ -1,56 +1,52 @@
 // The head of a log, and its length where it is a file.
-use crate::files::{Length, fill_from};
+use crate::files::fill_from;
 use event_log::{has_mark, has_version};
+use refusal::Refusal;
 use std::fs::File;
 use std::rt::HostRuntime;
 
 #[derive(Clone, Copy)]
-pub enum Head {
-    Whole,
-    // The number of a refusal.
-    Refused(u32),
-    // No byte at all, which is a mark cut short: 15.
+pub enum HeadError {
+    Refused(Refusal),
+    // No byte at all, which is a mark cut short.
     Empty,
     // Standard error has a line that says why.
     Unreadable,
 }
 
 // Whether the last record of a file is cut.
-fn is_cut(length: Length) -> bool {
-    match length {
-        Length::Bytes(n) => {
-            if n < 5 {
-                return false;
-            }
-            (n - 5) % 8 != 0
-        }
-        Length::Unknown => false,
-    }
+fn is_cut(length: Option<u64>) -> bool {
+    length.is_some_and(|n| (n >= 5) && (n - 5) % 8 != 0)
 }
 
-fn judged(head: &[u8], length: Length) -> Head {
+fn judge(head: &[u8], length: Option<u64>) -> Result<(), Refusal> {
     if !has_mark(head) {
-        return Head::Refused(15);
+        return Err(Refusal::WrongMark);
     }
     if !has_version(head) {
-        return Head::Refused(16);
+        return Err(Refusal::UnknownVersion);
     }
     if is_cut(length) {
-        return Head::Refused(17);
+        return Err(Refusal::WrongLength);
     }
-    Head::Whole
+    Ok(())
 }
 
-// Reads the head of the log that an argument names, from its start.
-pub fn read_head(rt: &HostRuntime, file: &mut File, argument: usize, length: Length) -> Head {
+// Reads the head of the log that an argument names, from its start. length is None where it is not known.
+pub fn read_head(
+    rt: &HostRuntime,
+    file: &mut File,
+    argument: usize,
+    length: Option<u64>,
+) -> Result<(), HeadError> {
     let mut head = [0u8; 5];
     let filled = fill_from(rt, file, argument, &mut head);
     if filled.failed {
-        return Head::Unreadable;
+        return Err(HeadError::Unreadable);
     }
     let n = filled.bytes;
     if n == 0 {
-        return Head::Empty;
+        return Err(HeadError::Empty);
     }
-    judged(&head[..n], length)
+    judge(&head[..n], length).map_err(HeadError::Refused)
 }

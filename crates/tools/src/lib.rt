@@ -10,16 +10,17 @@ mod quoting;
 mod ramps;
 mod reasons;
 mod saying;
+mod shown;
 mod version;
 
 pub use calls::{has_argument, has_words};
 pub use ends::{end_refused, end_unreadable};
 pub use explain::{say_fault, say_refusal};
 pub use files::{
-    Filled, Length, fill, fill_from, length_of, open_argument, open_overwrite, open_read,
-    read_text, say_argument, say_failed,
+    Filled, fill, fill_from, length_of, open_argument, open_overwrite, open_read, read_text,
+    say_argument, say_failed,
 };
-pub use heads::{Head, read_head};
-pub use ramps::{RampRead, read_ramp, say_easing, say_mode, say_ramp};
+pub use heads::{HeadError, read_head};
+pub use ramps::{read_ramp, say_easing, say_mode, say_ramp};
 pub use reasons::{say_no_argument, say_reason};
 pub use saying::{STDERR_FILENO, STDOUT_FILENO, say, say_float, say_name, say_number};

@@ -2,7 +2,7 @@
 ghost use Rattle.std.specs.Prelude.{◌≡◌};
 ghost use Rattle.tools.specs.Quoting.{plain_of};
 
-use crate::saying::say;
+use std::fmt;
 
 fn is_plain(b: u8) -> bool
     ensures { result ≡ plain_of b }
@@ -10,33 +10,32 @@ fn is_plain(b: u8) -> bool
     (b >= 0x20) & (b <= 0x7e) & (b != b'\\')
 }
 
-fn say_byte(fd: i32, b: u8) {
-    if is_plain(b) {
-        say(fd, &[b]);
-        return;
-    }
-    say(fd, b"\\x");
-    io::print_hex(fd, b as u64, 2);
-}
+#[derive(Clone, Copy)]
+pub struct Plain<'a>(pub &'a [u8]);
 
-pub fn say_bytes(fd: i32, text: &[u8]) {
-    let mut i: usize = 0;
-    while i < text.len() {
-        say_byte(fd, text[i]);
-        i += 1;
+impl<'a> fmt::Display for Plain<'a> {
+    fn fmt<W: fmt::Write>(&self, f: &mut fmt::Formatter<W>) -> fmt::Result {
+        for b in self.0 {
+            if is_plain(*b) {
+                f.write_char(char::from(*b))?;
+            } else {
+                write!(f, "\\x{b:02x}")?;
+            }
+        }
+        Ok(())
     }
 }
 
 // Between quotation marks; of more than 40 bytes the first 40, and two points behind them.
-pub fn say_quote(fd: i32, text: &[u8]) {
-    say(fd, b"'");
-    let from: usize = 0;
-    let to: usize = 40;
-    if to < text.len() {
-        say_bytes(fd, &text[from..to]);
-        say(fd, b"' ..");
-        return;
+#[derive(Clone, Copy)]
+pub struct Quote<'a>(pub &'a [u8]);
+
+impl<'a> fmt::Display for Quote<'a> {
+    fn fmt<W: fmt::Write>(&self, f: &mut fmt::Formatter<W>) -> fmt::Result {
+        let text = self.0;
+        match text.get(..40) {
+            Some(front) if text.len() > 40 => write!(f, "'{}' ..", Plain(front)),
+            _ => write!(f, "'{}'", Plain(text)),
+        }
     }
-    say_bytes(fd, text);
-    say(fd, b"'");
 }

@@ -1,91 +1,45 @@
 // The ramp that an argument names.
 use crate::explain::say_fault;
 use crate::files::read_text;
-use crate::saying::{say, say_float, say_name, say_number};
-use ramp::{Parsed, parse_ramp};
+use crate::saying::say_text;
+use crate::shown::InRamp;
+use easing::Easing;
+use loop_mode::Loop;
+use ramp::parse_ramp;
 use std::rt::HostRuntime;
 use tween::Tween;
-use words::{LaxEasing, LaxLoop};
 
-#[derive(Clone, Copy)]
-pub enum RampRead {
-    Ramp(Tween),
-    // Standard error has a line that says why.
-    Unreadable,
-}
-
-fn parsed(rt: &HostRuntime, argument: usize, text: &[u8]) -> RampRead {
+// The ramp of a file of at most 65,535 bytes. None where there is none, and then standard error has a line
+// that says why.
+pub fn read_ramp(rt: &HostRuntime, argument: usize) -> Option<Tween> {
+    let mut buffer = io::large_buffer();
+    let text = read_text(rt, argument, &mut buffer)?;
     match parse_ramp(text) {
-        Parsed::Ramp(t) => RampRead::Ramp(t),
-        Parsed::Wrong(fault) => {
+        Ok(tween) => Some(tween),
+        Err(fault) => {
             say_fault(rt, argument, text, fault);
-            RampRead::Unreadable
+            None
         }
     }
 }
 
-// The ramp of a file of at most 65,535 bytes.
-pub fn read_ramp(rt: &HostRuntime, argument: usize) -> RampRead {
-    let mut text = io::large_buffer();
-    let filled = read_text(rt, argument, &mut text);
-    if filled.failed {
-        return RampRead::Unreadable;
-    }
-    let length = filled.bytes;
-    parsed(rt, argument, &text[..length])
-}
-
-fn say_parameter(fd: i32, x: f32) {
-    say(fd, b" ");
-    say_float(fd, x);
-}
-
 // An easing as it stands in a ramp: its name and its parameters.
-pub fn say_easing(fd: i32, e: LaxEasing) {
-    say_name(fd, names::easing(e.kind));
-    let many = ramp::decimals(e.kind);
-    if many > 0 {
-        say_parameter(fd, e.a);
-    }
-    if many > 1 {
-        say_parameter(fd, e.b);
-    }
-    if many > 3 {
-        say_parameter(fd, e.c);
-        say_parameter(fd, e.d);
-    }
-    if ramp::has_count(e.kind) {
-        say(fd, b" ");
-        say_number(fd, e.count as u64);
-    }
+pub fn say_easing(fd: i32, easing: Easing) {
+    say_text(fd, InRamp(easing));
 }
 
 // A mode as it stands in a ramp: its name, and its passes.
-pub fn say_mode(fd: i32, l: LaxLoop) {
-    say_name(fd, names::mode(l.mode));
-    if ramp::has_passes(l.mode) {
-        say(fd, b" ");
-        say_number(fd, l.passes as u64);
-    }
-}
-
-fn say_setting(fd: i32, name: &[u8], x: f32) {
-    say(fd, name);
-    say_float(fd, x);
-    say(fd, b"\n");
+pub fn say_mode(fd: i32, mode: Loop) {
+    say_text(fd, InRamp(mode));
 }
 
 // A ramp as it is understood, a setting to a line.
 pub fn say_ramp(fd: i32, t: Tween) {
-    let w = words::tween_words(t);
-    say_setting(fd, b"ramp start ", w.start);
-    say_setting(fd, b"ramp end ", w.end);
-    say_setting(fd, b"ramp duration ", w.duration);
-    say_setting(fd, b"ramp delay ", w.delay);
-    say_setting(fd, b"ramp scale ", w.time_scale);
-    say(fd, b"ramp mode ");
-    say_mode(fd, w.looping);
-    say(fd, b"\nramp easing ");
-    say_easing(fd, w.easing);
-    say(fd, b"\n");
+    say_text(fd, format_args!("ramp start {}\n", InRamp(t.start)));
+    say_text(fd, format_args!("ramp end {}\n", InRamp(t.end)));
+    say_text(fd, format_args!("ramp duration {}\n", InRamp(t.duration)));
+    say_text(fd, format_args!("ramp delay {}\n", InRamp(t.delay)));
+    say_text(fd, format_args!("ramp scale {}\n", InRamp(t.time_scale)));
+    say_text(fd, format_args!("ramp mode {}\n", InRamp(t.looping)));
+    say_text(fd, format_args!("ramp easing {}\n", InRamp(t.easing)));
 }

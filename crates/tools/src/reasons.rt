@@ -1,6 +1,4 @@
 // Why a file failed, in the system's words.
-ghost use Rattle.io.specs.Counts.{IsPrefixLen};
-
 use crate::saying::{STDERR_FILENO, say};
 use std::env::FillError;
 use std::io::{Cursor, Error, Write};
@@ -10,26 +8,21 @@ fn is_end(text: &[u8]) -> bool {
     text.starts_with(&[0]) | text.starts_with(b" (os error ")
 }
 
-// Where the words end.
-fn words_end(text: &[u8]) -> usize
-    ensures { IsPrefixLen result text.now }
-{
-    let mut at: usize = 0;
-    while at < text.len() {
+// The words of such a text.
+fn words(text: &[u8]) -> &[u8] {
+    for at in 0..text.len() {
         if is_end(&text[at..]) {
-            return at;
+            return &text[..at];
         }
-        at += 1;
     }
-    at
+    text
 }
 
 // What the system says of an error, without its number.
 pub fn say_reason(fd: i32, error: Error) {
     let mut text = Cursor::new([0u8; 128]);
     let _ = write!(text, "{error}");
-    let bytes = text.into_inner();
-    say(fd, &bytes[..words_end(&bytes)]);
+    say(fd, words(&text.into_inner()));
 }
 
 // On standard error: a name, and why there is no argument for it.

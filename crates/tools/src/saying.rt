@@ -1,12 +1,29 @@
 // Words and numbers on a descriptor.
-use names::Name;
+use crate::shown::InRamp;
+use std::fmt::{self, Write};
 
 pub const STDOUT_FILENO: i32 = 1;
 
 pub const STDERR_FILENO: i32 = 2;
 
+#[derive(Clone, Copy)]
+struct Descriptor(i32);
+
+// What can't be written is left out: a program's last line tells how it ended.
+impl fmt::Write for Descriptor {
+    fn write_str(&mut self, text: &str) -> fmt::Result {
+        io::write_all(self.0, text.as_bytes());
+        Ok(())
+    }
+}
+
 pub fn say(fd: i32, text: &[u8]) {
     io::write_all(fd, text);
+}
+
+// A text of several parts, by `format_args!`.
+pub fn say_text<D: fmt::Display + Drop>(fd: i32, text: D) {
+    let _ = Descriptor(fd).write(text);
 }
 
 pub fn say_number(fd: i32, n: u64) {
@@ -15,21 +32,9 @@ pub fn say_number(fd: i32, n: u64) {
 
 // So that it reads back.
 pub fn say_float(fd: i32, x: f32) {
-    let text = decimal::text_of(x);
-    let bytes = text.bytes;
-    let length = text.length;
-    io::write_all(fd, &bytes[..length]);
+    say_text(fd, InRamp(x));
 }
 
-fn say_front(fd: i32, text: &[u8], length: usize) {
-    if length > text.len() {
-        return;
-    }
-    let from: usize = 0;
-    io::write_all(fd, &text[from..length]);
-}
-
-pub fn say_name(fd: i32, name: Name) {
-    let length = names::length(name);
-    say_front(fd, &name, length);
+pub fn say_name(fd: i32, name: &str) {
+    say(fd, name.as_bytes());
 }

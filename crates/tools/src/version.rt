@@ -1,3 +1,3 @@
 // The version, which is the same for all programs.
 
-pub const VERSION: [u8; 5] = *b"0.6.0";
+pub const VERSION: &str = "0.6.0";

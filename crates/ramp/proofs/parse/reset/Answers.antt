@@ -3,8 +3,5 @@ use mathlib.Core.Path.{sym, ◌∙◌}
 use Rattle.ramp.proofs.Resets.{breaks}
 use Rattle.ramp.proofs.parse.reset.Goals as goal
 
-pub returns-in-Done : goal.returns-in-Done
-returns-in-Done c = λ h. (_, sym c.reset.ensures ∙ c.in-Done.is)
-
 pub returns-in-Refused : goal.returns-in-Refused
 returns-in-Refused c = λ h. absurd (breaks _ _ _ (sym c.reset.ensures ∙ c.in-Refused.is) h)

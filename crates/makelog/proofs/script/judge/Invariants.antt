@@ -1,9 +1,0 @@
--- `judge` ends: each line begins further on, and the measure is the bytes that are left. Lines are no more than bytes.
-use Rattle.std.proofs.Common.{◌+◌, ◌-◌, ◌≤◌, length}
-use Rattle.makelog.proofs.script.judge.Given as goal
-
-abbrev pub invariant-loop-at : goal.invariant-loop-at
-invariant-loop-at l = (l.at ≤ length l.text) × (l.line ≤ l.at + 1)
-
-abbrev pub decreases-loop-at : goal.decreases-loop-at
-decreases-loop-at l = length l.text - l.at

@@ -1,9 +1,0 @@
--- `write_times` ends: the measure is the records that are left.
-use Rattle.std.proofs.Common.{◌-◌, ◌≤◌}
-use Rattle.makelog.proofs.sink.write_times.Given as goal
-
-abbrev pub invariant-loop-i : goal.invariant-loop-i
-invariant-loop-i l = l.i ≤ l.times
-
-abbrev pub decreases-loop-i : goal.decreases-loop-i
-decreases-loop-i l = l.times - l.i
