@@ -14,11 +14,10 @@ pub fn say_number(n: u64) {
 // A length in tenths of a pixel.
 pub fn say_tenths(n: u64) {
     say_number(n / 10);
-    if n % 10 == 0 {
-        return;
+    if n % 10 != 0 {
+        say(b".");
+        say_number(n % 10);
     }
-    say(b".");
-    say_number(n % 10);
 }
 
 // A point, behind the letter of a path.
@@ -29,8 +28,10 @@ pub fn say_point(letter: &[u8], x: u64, y: u64) {
     say_tenths(y);
 }
 
-// The start of a text in a class, at a point.
-pub fn open_text(class: &[u8], x: u64, y: u64) {
+// A text in a class, at a point.
+pub fn say_text<F: FnOnce()>(class: &[u8], x: u64, y: u64, content: F)
+    requires { F.IsAlwaysCallable content }
+{
     say(b"<text class=\"");
     say(class);
     say(b"\" x=\"");
@@ -38,21 +39,17 @@ pub fn open_text(class: &[u8], x: u64, y: u64) {
     say(b"\" y=\"");
     say_tenths(y);
     say(b"\">");
-}
-
-// The end of a text.
-pub fn close_text() {
+    content();
     say(b"</text>\n");
 }
 
-// The start of a path in a class.
-pub fn open_path(class: &[u8]) {
+// A path in a class.
+pub fn say_path<F: FnOnce()>(class: &[u8], shape: F)
+    requires { F.IsAlwaysCallable shape }
+{
     say(b"<path class=\"");
     say(class);
     say(b"\" d=\"");
-}
-
-// The end of a path.
-pub fn close_path() {
+    shape();
     say(b"\"/>\n");
 }

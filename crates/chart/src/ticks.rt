@@ -2,7 +2,7 @@
 ghost use Rattle.std.specs.Prelude.{◌≤◌};
 
 use crate::axis::Step;
-use crate::numbers::{size, whole_to};
+use crate::numbers::whole_to;
 use crate::svg::{say, say_number};
 
 // n times 10^-places.
@@ -12,23 +12,20 @@ struct Scaled {
     places: u32,
 }
 
-// Without zeros at the end.
-fn trimmed(n: u64, places: u32) -> Scaled {
-    let mut rest = n;
-    let mut left = places;
-    while left > 0 {
-        if rest % 10 != 0 {
-            return Scaled {
-                n: rest,
-                places: left,
-            };
+impl Scaled {
+    // Without zeros at the end.
+    fn trimmed(self) -> Scaled {
+        let mut it = self;
+        while (it.places > 0) && (it.n % 10 == 0) {
+            it.n /= 10;
+            it.places -= 1;
         }
-        rest = rest / 10;
-        left -= 1;
+        it
     }
-    Scaled {
-        n: rest,
-        places: left,
+
+    // Whether it is shorter with an exponent.
+    fn is_small(self) -> bool {
+        (self.places > 9) | ((self.places > 6) & (self.n < 1000))
     }
 }
 
@@ -36,18 +33,7 @@ fn trimmed(n: u64, places: u32) -> Scaled {
 fn ten_to(n: u32) -> u64
     ensures { (1 ≤ result) × (result ≤ 1000000000) }
 {
-    match n {
-        0 => 1,
-        1 => 10,
-        2 => 100,
-        3 => 1000,
-        4 => 10000,
-        5 => 100000,
-        6 => 1000000,
-        7 => 10000000,
-        8 => 100000000,
-        _ => 1000000000,
-    }
+    10u64.pow(n.min(9))
 }
 
 // The digits of n behind its first.
@@ -66,25 +52,19 @@ fn say_exponent(n: u64, letter: &[u8], exponent: u32) {
     say_number(exponent as u64);
 }
 
-// Whether a number is shorter with an exponent.
-fn is_small(it: Scaled) -> bool {
-    (it.places > 9) | ((it.places > 6) & (it.n < 1000))
-}
-
 // n times 10^-places.
 fn say_fraction(n: u64, places: u32) {
-    let it = trimmed(n, places);
-    if is_small(it) {
+    let it = Scaled { n, places }.trimmed();
+    if it.is_small() {
         say_exponent(it.n, b"e-", it.places);
         return;
     }
     let unit = ten_to(it.places);
     say_number(it.n / unit);
-    if it.places == 0 {
-        return;
+    if it.places > 0 {
+        say(b".");
+        say_behind_first(unit + it.n % unit);
     }
-    say(b".");
-    say_behind_first(std::num::wrapping_add_u64(unit, it.n % unit));
 }
 
 // n times 10^zeros.
@@ -99,21 +79,9 @@ fn say_large(n: u64, zeros: u32) {
     }
 }
 
-// n times 1, 2, 5 or 10.
-fn times(n: u64, digit: u64) -> u64
-    requires { n ≤ 1000000000000000 }
-{
-    match digit {
-        1 => n,
-        2 => n * 2,
-        5 => n * 5,
-        _ => n * 10,
-    }
-}
-
 // The number at a tick, which is so many steps from 0.
 pub fn say_tick(step: Step, steps: f64) {
-    let n = times(whole_to(size(steps) + 0.5, 1000000000000000), step.digit);
+    let n = whole_to(steps.abs() + 0.5, 1000000000000000) * u64::from(step.digit);
     if n == 0 {
         say(b"0");
         return;
@@ -121,9 +89,10 @@ pub fn say_tick(step: Step, steps: f64) {
     if steps < 0.0 {
         say(b"-");
     }
-    if step.zeros > 0 {
-        say_large(n, step.zeros);
-        return;
+    let places = step.exponent.unsigned_abs();
+    if step.exponent > 0 {
+        say_large(n, places);
+    } else {
+        say_fraction(n, places);
     }
-    say_fraction(n, step.places);
 }
