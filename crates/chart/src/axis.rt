@@ -1,11 +1,18 @@
 // An axis: where its ticks are.
 
-// digit, 1, 2, 5 or 10, times 10^exponent.
+// 10^n or 10^-n.
+#[derive(Clone, Copy)]
+pub enum Power {
+    Zeros(u32),
+    Places(u32),
+}
+
+// digit, 1, 2, 5 or 10, times a power of ten.
 #[derive(Clone, Copy)]
 pub struct Step {
     pub size: f64,
     pub digit: u8,
-    pub exponent: i32,
+    pub power: Power,
 }
 
 // first is the number of steps at low.
@@ -18,7 +25,7 @@ pub struct Axis {
 }
 
 // 1, changed until it is enough, and how often that was: 60 times at most.
-fn changed<C: Fn(f64) -> f64, E: Fn(f64) -> bool>(change: C, is_enough: E) -> (f64, i32)
+fn changed<C: Fn(f64) -> f64, E: Fn(f64) -> bool>(change: C, is_enough: E) -> (f64, u32)
     requires change { C.IsAlwaysCallable change }
     requires is_enough { E.IsAlwaysCallable is_enough }
 {
@@ -33,17 +40,18 @@ fn changed<C: Fn(f64) -> f64, E: Fn(f64) -> bool>(change: C, is_enough: E) -> (f
 }
 
 // The largest power of ten up to x.
-fn power(x: f64) -> Step {
-    let (size, exponent) = if x < 1.0 {
-        let (size, places) = changed(|s| s / 10.0, |s| s <= x);
-        (size, -places)
+fn power_of(x: f64) -> Step {
+    let (size, power) = if x < 1.0 {
+        let (size, n) = changed(|s| s / 10.0, |s| s <= x);
+        (size, Power::Places(n))
     } else {
-        changed(|s| s * 10.0, |s| s * 10.0 > x)
+        let (size, n) = changed(|s| s * 10.0, |s| s * 10.0 > x);
+        (size, Power::Zeros(n))
     };
     Step {
         size,
         digit: 1,
-        exponent,
+        power,
     }
 }
 
@@ -53,14 +61,14 @@ impl Step {
         Step {
             size: self.size * f64::from(digit),
             digit,
-            exponent: self.exponent,
+            power: self.power,
         }
     }
 }
 
 // The least round step that is x or more.
 fn round_step(x: f64) -> Step {
-    let step = power(x);
+    let step = power_of(x);
     if x <= step.size * 1.000001 {
         return step;
     }

@@ -1,7 +1,7 @@
 // The numbers at the ticks of an axis.
 ghost use Rattle.std.specs.Prelude.{◌≤◌};
 
-use crate::axis::Step;
+use crate::axis::{Power, Step};
 use crate::numbers::whole_to;
 use crate::svg::{say, say_number};
 
@@ -89,10 +89,8 @@ pub fn say_tick(step: Step, steps: f64) {
     if steps < 0.0 {
         say(b"-");
     }
-    let places = step.exponent.unsigned_abs();
-    if step.exponent > 0 {
-        say_large(n, places);
-    } else {
-        say_fraction(n, places);
+    match step.power {
+        Power::Zeros(zeros) => say_large(n, zeros),
+        Power::Places(places) => say_fraction(n, places),
     }
 }
