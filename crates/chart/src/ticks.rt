@@ -3,7 +3,7 @@ ghost use Rattle.std.specs.Prelude.{◌≤◌};
 
 use crate::axis::{Power, Step};
 use crate::numbers::whole_to;
-use crate::svg::{say, say_number};
+use std::fmt;
 
 // n times 10^-places.
 #[derive(Clone, Copy)]
@@ -36,61 +36,57 @@ fn ten_to(n: u32) -> u64
     10u64.pow(n.min(9))
 }
 
-// The digits of n behind its first.
-fn say_behind_first(n: u64) {
-    let mut text = [0u8; 20];
-    let length = io::decimal(n, &mut text);
-    if length >= 1 {
-        io::write_all(tools::STDOUT_FILENO, &text[1..length]);
-    }
-}
-
-// A number with its exponent.
-fn say_exponent(n: u64, letter: &[u8], exponent: u32) {
-    say_number(n);
-    say(letter);
-    say_number(exponent as u64);
-}
-
-// n times 10^-places.
-fn say_fraction(n: u64, places: u32) {
-    let it = Scaled { n, places }.trimmed();
-    if it.is_small() {
-        say_exponent(it.n, b"e-", it.places);
-        return;
-    }
-    let unit = ten_to(it.places);
-    say_number(it.n / unit);
-    if it.places > 0 {
-        say(b".");
-        say_behind_first(unit + it.n % unit);
+impl fmt::Display for Scaled {
+    fn fmt<W: fmt::Write>(&self, f: &mut fmt::Formatter<W>) -> fmt::Result {
+        let (n, places) = (self.n, self.places);
+        if self.is_small() {
+            return write!(f, "{n}e-{places}");
+        }
+        let unit = ten_to(places);
+        write!(f, "{}", n / unit)?;
+        if places > 0 {
+            write!(f, ".{:0width$}", n % unit, width = places as usize)?;
+        }
+        Ok(())
     }
 }
 
 // n times 10^zeros.
-fn say_large(n: u64, zeros: u32) {
-    if zeros > 6 {
-        say_exponent(n, b"e", zeros);
-        return;
-    }
-    say_number(n);
-    if zeros > 0 {
-        say_behind_first(ten_to(zeros));
+#[derive(Clone, Copy)]
+struct Large {
+    n: u64,
+    zeros: u32,
+}
+
+impl fmt::Display for Large {
+    fn fmt<W: fmt::Write>(&self, f: &mut fmt::Formatter<W>) -> fmt::Result {
+        if self.zeros > 6 {
+            return write!(f, "{}e{}", self.n, self.zeros);
+        }
+        write!(f, "{}", self.n)?;
+        f.write_repeated("0", self.zeros as usize)
     }
 }
 
 // The number at a tick, which is so many steps from 0.
-pub fn say_tick(step: Step, steps: f64) {
-    let n = whole_to(steps.abs() + 0.5, 1000000000000000) * u64::from(step.digit);
-    if n == 0 {
-        say(b"0");
-        return;
-    }
-    if steps < 0.0 {
-        say(b"-");
-    }
-    match step.power {
-        Power::Zeros(zeros) => say_large(n, zeros),
-        Power::Places(places) => say_fraction(n, places),
+#[derive(Clone, Copy)]
+pub struct Tick {
+    pub step: Step,
+    pub steps: f64,
+}
+
+impl fmt::Display for Tick {
+    fn fmt<W: fmt::Write>(&self, f: &mut fmt::Formatter<W>) -> fmt::Result {
+        let n = whole_to(self.steps.abs() + 0.5, 1000000000000000) * u64::from(self.step.digit);
+        if n == 0 {
+            return write!(f, "0");
+        }
+        if self.steps < 0.0 {
+            write!(f, "-")?;
+        }
+        match self.step.power {
+            Power::Zeros(zeros) => write!(f, "{}", Large { n, zeros }),
+            Power::Places(places) => write!(f, "{}", Scaled { n, places }.trimmed()),
+        }
     }
 }
