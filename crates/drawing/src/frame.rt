@@ -56,3 +56,12 @@ pub fn down(axis: &Axis, x: f64) -> u64
 pub fn height_at(frame: &Frame, value: f32) -> u64 {
     down(&frame.value, f64::from(value))
 }
+
+// About how wide a label is, in tenths of a pixel.
+pub fn width(n: u64) -> u64
+    ensures { result ≤ 2000 }
+{
+    let mut text = [0u8; 20];
+    let digits = io::decimal(n, &mut text);
+    (digits as u64) * 70 + 520
+}

@@ -2,10 +2,10 @@
 ghost use Rattle.std.specs.Prelude.{◌≤◌};
 
 use crate::columns::{Column, Table};
-use crate::frame::{HIGH, LEFT};
+use crate::frame::{HIGH, LEFT, width};
 use crate::marks::middle;
 use chart::svg::{Point, Tenths};
-use std::io::Result as IoResult;
+use std::io;
 use std::rt::HostRuntime;
 
 // What a row has labels of: updates with more than one pass, or gaps.
@@ -57,7 +57,7 @@ impl Kind {
     }
 
     // The passes of an update have a line over the whole height.
-    fn draw(self, rt: &HostRuntime, label: Label) -> IoResult<()> {
+    fn draw(self, rt: &HostRuntime, label: Label) -> io::Result<()> {
         let (x, y, n) = (Tenths(label.from), Tenths(self.height()), label.n);
         match self {
             Kind::Passes => {
@@ -74,15 +74,6 @@ impl Kind {
     }
 }
 
-// About how wide a label is.
-fn width(n: u64) -> u64
-    ensures { result ≤ 2000 }
-{
-    let mut text = [0u8; 20];
-    let digits = io::decimal(n, &mut text);
-    (digits as u64) * 70 + 520
-}
-
 // Where the label over a mark begins, in the field and before the limit, if there is room behind `busy`.
 fn place(over: u64, wide: u64, busy: u64, limit: u64) -> Option<u64>
     requires { wide ≤ 2000 }
@@ -96,12 +87,12 @@ fn place(over: u64, wide: u64, busy: u64, limit: u64) -> Option<u64>
 }
 
 // Lays the labels of a row from left to right, before a limit, and answers how many are left out.
-fn lay<F: Fn(Label) -> IoResult<()>>(
+fn lay<F: Fn(Label) -> io::Result<()>>(
     table: &Table,
     kind: Kind,
     limit: u64,
     draw: F,
-) -> IoResult<u64>
+) -> io::Result<u64>
     requires { F.IsAlwaysCallable draw }
 {
     let mut busy: u64 = 0;
@@ -125,7 +116,7 @@ fn lay<F: Fn(Label) -> IoResult<()>>(
 }
 
 // One row, with room at its end for what is left out.
-fn row(rt: &HostRuntime, table: &Table, kind: Kind, limit: u64) -> IoResult<()> {
+fn row(rt: &HostRuntime, table: &Table, kind: Kind, limit: u64) -> io::Result<()> {
     let left = lay(table, kind, limit, |_| Ok(()))?;
     let cut = if left > 0 { width(left) + 260 } else { 0 };
     let more = lay(
@@ -142,7 +133,7 @@ fn row(rt: &HostRuntime, table: &Table, kind: Kind, limit: u64) -> IoResult<()> 
 }
 
 // The passes above, what is missing below them.
-pub fn labels(rt: &HostRuntime, table: &Table, stops: bool) -> IoResult<()> {
+pub fn labels(rt: &HostRuntime, table: &Table, stops: bool) -> io::Result<()> {
     row(rt, table, Kind::Passes, 9500)?;
     row(rt, table, Kind::Missing, if stops { 8700 } else { 9500 })
 }
