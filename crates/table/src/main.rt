@@ -42,5 +42,5 @@ fn print_table(rt: &HostRuntime) -> io::Result<()> {
 
 // Where standard output can't be written, the table ends.
 fn main(rt: HostRuntime) {
-    let _ = print_table(&rt);
+    let _written = print_table(&rt);
 }
