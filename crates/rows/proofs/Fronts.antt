@@ -1,20 +1,16 @@
 -- Two lists that agree at their fronts. Assumes nothing.
-use Prim.Native.Nat.{ℕ, ◌+◌, ◌≤◌}
+use Prim.Native.Nat.{ℕ, ◌+◌}
 use mathlib.Core.Bool.{Bool, true, false}
 use mathlib.Core.Path.{◌≡◌, sym, ap, ◌∙◌}
 use mathlib.Core.List.{List}
 use native.Mathlib.Omega.{arith}
 use lib.ListN.{length, take, drop, length-drop}
 use lib.Pointwise.{pointwise}
-use lib.Seq.{take_all, length-take-le}
+use lib.Seq.{take_all}
 use Rattle.std.specs.Prelude.{slice_range, nat_eq}
 use Rattle.std.specs.Cmp.Lexicographic.{same_text, other_text}
 use Rattle.rows.specs.Words.{Rest, Tells}
 use Rattle.rows.proofs.Told.{yes, no}
-
--- what a part from the front has for its length
-pub front {ℓ} : {A : Type ℓ} (n : ℕ) (l : List A) → n ≤ length l → n ≡ length (take n l)
-front n l h = sym (length-take-le n l h)
 
 -- the words from a place on, the first n of the other list, and whether they are equal
 module _ (words out : List ℕ) (from n : ℕ) (rest first : List ℕ) (R : rest ≡ slice_range words from (length words)) (L : length rest + from ≡ length words) (F : first ≡ slice_range out 0 n) (K : length first + 0 ≡ n) where
