@@ -1,39 +1,49 @@
 // What the numbers show, and how a report ends.
 ghost use Rattle.std.specs.Prelude.{◌≡◌};
-ghost use Rattle.audit.specs.Judged.{late_of, loss_of, end_of};
+ghost use Rattle.audit.specs.Judged.{late_of, earlier_of, loss_of, end_of};
 
 use crate::ending::End;
+use steps::Outcome;
 
-// Whether the first record, by its number, is not the first of its log. 65,536 stands for no record.
-pub fn begins_late(first: u32) -> bool
+// Whether the first record, by its number, is not the first of its log.
+pub fn begins_late(first: Option<u16>) -> bool
     ensures { result ≡ late_of first }
 {
-    (first > 0) & (first < 65536)
+    match first {
+        Some(number) => number > 0,
+        None => false,
+    }
+}
+
+fn earlier(gap: Option<u64>, repeat: Option<u64>) -> Option<u64>
+    ensures { result ≡ earlier_of gap repeat }
+{
+    match (gap, repeat) {
+        (Some(gap), Some(repeat)) => Some(if gap < repeat { gap } else { repeat }),
+        _ => gap.or(repeat),
+    }
 }
 
 // The place of the first record behind what is missing or may be. gap and repeat are the places of the first
-// gap and the first repeat; 18,446,744,073,709,551,615 stands for none.
-pub fn loss_from(first: u32, gap: u64, repeat: u64) -> u64
+// gap and the first repeat.
+pub fn loss_from(first: Option<u16>, gap: Option<u64>, repeat: Option<u64>) -> Option<u64>
     ensures { result ≡ loss_of first gap repeat }
 {
     if begins_late(first) {
-        return 0;
+        return Some(0);
     }
-    if gap < repeat {
-        return gap;
-    }
-    repeat
+    earlier(gap, repeat)
 }
 
-// failed: a read failed. refused is the number of a refusal, 0 for none.
-pub fn end_of(failed: bool, refused: u32, gaps: u64, repeats: u64, first: u32) -> End
-    ensures { result ≡ end_of failed refused gaps repeats first }
+// failed: a read failed.
+pub fn end_of(failed: bool, outcome: Outcome, gaps: u64, repeats: u64, first: Option<u16>) -> End
+    ensures { result ≡ end_of failed outcome gaps repeats first }
 {
     if failed {
         return End::Unreadable;
     }
-    if refused > 0 {
-        return End::Refused(refused);
+    if let Outcome::Refused(refusal) = outcome {
+        return End::Refused(refusal);
     }
     if (gaps > 0) | (repeats > 0) | begins_late(first) {
         return End::Lacking;

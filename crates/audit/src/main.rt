@@ -19,9 +19,11 @@ mod put;
 mod report;
 mod walk;
 
-use put::line;
+use refusal::Refusal;
 use std::fs::File;
-use tools::{Head, RampRead, STDERR_FILENO, end_refused, end_unreadable};
+use std::io;
+use std::rt::HostRuntime;
+use tools::{Head, RampRead, STDERR_FILENO, STDOUT_FILENO, end_refused, end_unreadable};
 use tween::Tween;
 
 // Whether the words are there to work on.
@@ -49,28 +51,33 @@ fn is_called(rt: &HostRuntime) -> bool {
 }
 
 // A refusal before any record is replayed.
-fn refused(number: u32) {
-    tools::say(1, b"refused ");
-    tools::say_refusal(1, number);
-    line(b"");
+fn refused(rt: &HostRuntime, number: u32) -> io::Result<()> {
+    print!(rt; "refused ")?;
+    tools::say_refusal(STDOUT_FILENO, number);
+    println!(rt)?;
     end_refused(number);
+    Ok(())
 }
 
 // The log on an open file.
-fn audit(rt: &HostRuntime, file: &mut File, t: Tween) {
+fn audit(rt: &HostRuntime, file: &mut File, t: Tween) -> io::Result<()> {
     let length = tools::length_of(file);
     match tools::read_head(rt, file, 2, length) {
-        Head::Whole => report::all(walk::all(rt, file, t, length)),
-        Head::Refused(number) => refused(number),
+        Head::Whole => report::all(rt, &walk::all(rt, file, t, length)),
+        Head::Refused(number) => refused(rt, number),
         Head::Empty => {
             tools::say_argument(rt, STDERR_FILENO, 2);
             tools::say(STDERR_FILENO, b": the log is empty\n");
-            refused(15);
+            refused(rt, Refusal::WrongMark.number())
         }
-        Head::Unreadable => end_unreadable(),
+        Head::Unreadable => {
+            end_unreadable();
+            Ok(())
+        }
     }
 }
 
+// What can't be written of the report is missing at its end, which the script bin/audit tells.
 fn main(rt: HostRuntime) {
     if !is_called(&rt) {
         return;
@@ -83,10 +90,10 @@ fn main(rt: HostRuntime) {
         end_unreadable();
         return;
     };
-    tools::say_ramp(1, t);
-    if tween::within(t) {
-        audit(&rt, &mut file, t);
+    tools::say_ramp(STDOUT_FILENO, t);
+    let _written = if tween::within(t) {
+        audit(&rt, &mut file, t)
     } else {
-        refused(4);
-    }
+        refused(&rt, Refusal::RecordBreaksLimit.number())
+    };
 }

@@ -1,19 +1,20 @@
 // Lines of the report.
-use tools::{say, say_float, say_number};
+use std::io;
+use std::rt::HostRuntime;
+use tools::{STDOUT_FILENO, say_float};
 
-pub fn line(text: &[u8]) {
-    say(1, text);
-    say(1, b"\n");
+// A line that ends in a decimal that reads back.
+pub fn float_line(rt: &HostRuntime, name: &str, x: f32) -> io::Result<()> {
+    print!(rt; "{name}")?;
+    say_float(STDOUT_FILENO, x);
+    println!(rt)
 }
 
-pub fn number_line(name: &[u8], n: u64) {
-    say(1, name);
-    say_number(1, n);
-    say(1, b"\n");
-}
-
-pub fn float_line(name: &[u8], x: f32) {
-    say(1, name);
-    say_float(1, x);
-    say(1, b"\n");
+// What is said, and of what a reader has to know if the replay stopped.
+pub fn line_so_far(rt: &HostRuntime, text: &str, stopped: bool) -> io::Result<()> {
+    if stopped {
+        println!(rt; "{text}, up to where the replay stopped")
+    } else {
+        println!(rt; "{text}")
+    }
 }

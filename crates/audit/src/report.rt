@@ -2,122 +2,126 @@
 use crate::answer::answers;
 use crate::ending::End;
 use crate::judged::end_of;
-use crate::listed::{Line, list_lines};
-use crate::put::{float_line, line, number_line};
+use crate::listed::{gap_line, list_lines, repeat_line};
+use crate::put::float_line;
 use crate::walk::Walk;
 use easing::Eased;
-use reader::{Last, Replay};
-use survey::{Counts, Lists, Seen, Survey};
-use tools::{say, say_number};
+use reader::Last;
+use std::io;
+use std::rt::HostRuntime;
+use steps::Outcome;
+use survey::{Seen, Survey};
+use tools::STDOUT_FILENO;
 use tween::Tween;
 
-fn most_line(one: Seen) {
-    say(1, b"most folds ");
-    say_number(1, one.folds);
-    say(1, b", record ");
-    say_number(1, one.place);
-    float_line(b", step ", one.step);
-}
-
-fn most_lines(list: [Seen; 5]) {
-    let mut i: usize = 0;
-    while i < 5 {
-        let one = list[i];
-        if one.folds > 0 {
-            most_line(one);
+fn most_lines(rt: &HostRuntime, most: &[Option<Seen>; 5]) -> io::Result<()> {
+    for place in most {
+        if let Some(one) = place {
+            print!(rt; "most folds {}, record {}", one.folds, one.place)?;
+            float_line(rt, ", step ", one.step)?;
         }
-        i += 1;
+    }
+    Ok(())
+}
+
+fn records_lines(rt: &HostRuntime, w: &Walk) -> io::Result<()> {
+    println!(rt; "records {}", w.survey.counts.records)?;
+    match (w.first, w.survey.reached.last) {
+        (Some(first), Last::Number(last)) => println!(rt; "numbers {first} to {last}"),
+        _ => Ok(()),
     }
 }
 
-fn records_lines(records: u64, first: u32, last: Last) {
-    number_line(b"records ", records);
-    match last {
-        Last::Number(n) => {
-            say(1, b"numbers ");
-            say_number(1, first as u64);
-            number_line(b" to ", n as u64);
-        }
-        Last::Unread => {}
-    }
-}
-
-fn lists_lines(lists: Lists, counts: Counts, reached: Replay) {
-    let gaps = lists.gaps;
-    list_lines(Line::Gap, gaps, counts.gaps);
-    number_line(b"gaps ", counts.gaps);
-    say(1, b"missing ");
-    say_number(1, reached.missing);
-    line(b" by the numbers");
-    let repeats = lists.repeats;
-    list_lines(Line::Repeat, repeats, counts.repeats);
-    number_line(b"repeats ", counts.repeats);
-    number_line(b"folds ", reached.folds);
-    let most = lists.most;
-    most_lines(most);
-}
-
-fn stopped_line(place: u64, refused: u32) {
-    if refused == 0 {
-        return;
-    }
-    say(1, b"stopped at record ");
-    say_number(1, place);
-    say(1, b": ");
-    tools::say_refusal(1, refused);
-    line(b"");
-}
-
-fn value_line(found: Eased) {
-    match found {
-        Eased::Value(f) => float_line(b"tween value ", f.value),
-        Eased::Refused(refusal) => number_line(b"tween value refused ", refusal.number() as u64),
-    }
-}
-
-fn tween_lines(t: Tween) {
-    let w = words::tween_words(t);
-    say(1, b"tween state ");
-    tools::say_name(1, names::state(w.state));
-    line(b"");
-    float_line(b"tween elapsed ", w.elapsed);
-    float_line(b"tween delay_elapsed ", w.delay_elapsed);
-    number_line(b"tween loop_count ", w.loop_count as u64);
-    if t.ping_pong_reverse {
-        line(b"tween reversed yes");
-    } else {
-        line(b"tween reversed no");
-    }
-    value_line(t.value());
-}
-
-fn end_line(end: End, counts: Counts, first: u32) {
-    match end {
-        End::Whole => line(b"end ok"),
-        End::Lacking => {
-            say(1, b"end gaps ");
-            say_number(1, counts.gaps);
-            say(1, b" repeats ");
-            say_number(1, counts.repeats);
-            number_line(b" first ", first as u64);
-        }
-        End::Refused(number) => tools::end_refused(number),
-        End::Unreadable => tools::end_unreadable(),
-    }
-}
-
-pub fn all(w: Walk) {
-    let s = w.survey;
-    let reached = s.reached;
+fn lists_lines(rt: &HostRuntime, s: &Survey) -> io::Result<()> {
     let counts = s.counts;
-    let lists = s.lists;
-    let last = reached.last;
-    let t = reached.tween;
-    records_lines(counts.records, w.first, last);
-    lists_lines(lists, counts, reached);
-    stopped_line(counts.records, s.refused);
-    tween_lines(t);
-    answers(lists, counts, w.first, w.failed | (s.refused != 0));
-    let end = end_of(w.failed, s.refused, counts.gaps, counts.repeats, w.first);
-    end_line(end, counts, w.first);
+    list_lines(
+        rt,
+        &s.lists.gaps,
+        counts.gaps,
+        gap_line,
+        "gap and more such records",
+    )?;
+    println!(rt; "gaps {}", counts.gaps)?;
+    println!(rt; "missing {} by the numbers", s.reached.missing)?;
+    list_lines(
+        rt,
+        &s.lists.repeats,
+        counts.repeats,
+        repeat_line,
+        "repeat and more such records",
+    )?;
+    println!(rt; "repeats {}", counts.repeats)?;
+    println!(rt; "folds {}", s.reached.folds)?;
+    most_lines(rt, &s.lists.most)
+}
+
+fn stopped_line(rt: &HostRuntime, s: &Survey) -> io::Result<()> {
+    match s.outcome {
+        Outcome::Refused(refusal) => {
+            print!(rt; "stopped at record {}: ", s.counts.records)?;
+            tools::say_refusal(STDOUT_FILENO, refusal.number());
+            println!(rt)
+        }
+        Outcome::Finished => Ok(()),
+    }
+}
+
+fn value_line(rt: &HostRuntime, found: Eased) -> io::Result<()> {
+    match found {
+        Eased::Value(f) => float_line(rt, "tween value ", f.value),
+        Eased::Refused(refusal) => println!(rt; "tween value refused {}", refusal.number()),
+    }
+}
+
+fn tween_lines(rt: &HostRuntime, t: Tween) -> io::Result<()> {
+    let w = words::tween_words(t);
+    print!(rt; "tween state ")?;
+    tools::say_name(STDOUT_FILENO, names::state(w.state));
+    println!(rt)?;
+    float_line(rt, "tween elapsed ", w.elapsed)?;
+    float_line(rt, "tween delay_elapsed ", w.delay_elapsed)?;
+    println!(rt; "tween loop_count {}", w.loop_count)?;
+    println!(rt;
+        "tween reversed {}",
+        if t.ping_pong_reverse { "yes" } else { "no" }
+    )?;
+    value_line(rt, t.value())
+}
+
+fn end_line(rt: &HostRuntime, w: &Walk) -> io::Result<()> {
+    let counts = w.survey.counts;
+    match end_of(
+        w.failed,
+        w.survey.outcome,
+        counts.gaps,
+        counts.repeats,
+        w.first,
+    ) {
+        End::Whole => println!(rt; "end ok"),
+        End::Lacking => {
+            // a log that lacks a record has a first one
+            let first = w.first.unwrap_or(0);
+            println!(rt;
+                "end gaps {} repeats {} first {first}",
+                counts.gaps, counts.repeats
+            )
+        }
+        End::Refused(refusal) => {
+            tools::end_refused(refusal.number());
+            Ok(())
+        }
+        End::Unreadable => {
+            tools::end_unreadable();
+            Ok(())
+        }
+    }
+}
+
+pub fn all(rt: &HostRuntime, w: &Walk) -> io::Result<()> {
+    records_lines(rt, w)?;
+    lists_lines(rt, &w.survey)?;
+    stopped_line(rt, &w.survey)?;
+    tween_lines(rt, w.survey.reached.tween)?;
+    answers(rt, w)?;
+    end_line(rt, w)
 }

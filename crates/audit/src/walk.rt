@@ -1,60 +1,66 @@
 // A log from its first record to its last, a part at a time.
+use refusal::Refusal;
 use std::fs::File;
 use std::rt::HostRuntime;
+use steps::Outcome;
 use survey::{Survey, survey_on};
 use tools::{Length, STDERR_FILENO};
 use tween::Tween;
 
-// first is the number of the first record, 65,536 where there is none. failed: a read failed.
+// first is the number of the first record. failed: a read failed.
 #[derive(Clone, Copy)]
 pub struct Walk {
     pub survey: Survey,
     pub bytes: u64,
-    pub first: u32,
+    pub first: Option<u16>,
     pub failed: bool,
 }
 
-fn begin(t: Tween) -> Walk {
-    let survey = survey::begin(t);
-    Walk {
-        survey,
-        bytes: 0,
-        first: 65536,
-        failed: false,
-    }
-}
-
-fn first_number(first: u32, records: &[u8]) -> u32 {
-    if first < 65536 {
-        return first;
-    }
+fn first_number(records: &[u8]) -> Option<u16> {
     if records.len() < 8 {
-        return first;
+        return None;
     }
-    reader::number_in(reader::record_at(records, 0)) as u32
+    Some(reader::number_in(reader::record_at(records, 0)))
 }
 
-// 17 where a log that was read to its end has bytes left over behind the last record.
-fn with_tail(s: Survey, bytes: usize, failed: bool) -> Survey {
-    let mut t = s;
-    if (s.refused == 0) & (bytes % 8 != 0) & !failed {
-        t.refused = 17;
+impl Walk {
+    fn begin(t: Tween) -> Walk {
+        Walk {
+            survey: survey::begin(t),
+            bytes: 0,
+            first: None,
+            failed: false,
+        }
     }
-    t
-}
 
-// The next 65,536 bytes of the log.
-fn next_part(rt: &HostRuntime, file: &mut File, w: Walk) -> Walk {
-    let mut buffer = io::large_buffer();
-    let filled = tools::fill_from(rt, file, 2, &mut buffer);
-    let n = filled.bytes;
-    let before = w.survey;
-    let survey = with_tail(survey_on(before, &buffer[..n]), n, filled.failed);
-    Walk {
-        survey,
-        bytes: std::num::wrapping_add_u64(w.bytes, n as u64),
-        first: first_number(w.first, &buffer[..n]),
-        failed: filled.failed,
+    pub fn is_refused(&self) -> bool {
+        matches!(self.survey.outcome, Outcome::Refused(_))
+    }
+
+    // Before the end of the log.
+    pub fn is_stopped(&self) -> bool {
+        self.failed | self.is_refused()
+    }
+
+    fn hear(&mut self, part: &[u8]) {
+        self.survey = survey_on(self.survey, part);
+        self.bytes = self.bytes.wrapping_add(part.len() as u64);
+        if self.first.is_none() {
+            self.first = first_number(part);
+        }
+        // the log was read to its end, and has bytes left over behind the last record
+        if !self.is_stopped() & (part.len() % 8 != 0) {
+            self.survey.outcome = Outcome::Refused(Refusal::WrongLength);
+        }
+    }
+
+    // The next 65,536 bytes of the log; whether there were as many.
+    fn read_on(&mut self, rt: &HostRuntime, file: &mut File) -> bool {
+        let mut buffer = io::large_buffer();
+        let filled = tools::fill_from(rt, file, 2, &mut buffer);
+        self.failed = filled.failed;
+        self.hear(&buffer[..filled.bytes]);
+        filled.bytes == buffer.len()
     }
 }
 
@@ -79,20 +85,15 @@ fn say_progress(bytes: u64) {
 // The whole log, behind its head.
 pub fn all(rt: &HostRuntime, file: &mut File, t: Tween, length: Length) -> Walk {
     let long = is_long(length);
-    let mut w = begin(t);
-    let mut turns: u64 = 18446744073709551615;
-    while turns > 0 {
-        let before = w.bytes;
-        let next = next_part(rt, file, w);
-        w = next;
-        let s = w.survey;
-        if w.failed | (s.refused != 0) | (std::num::wrapping_sub_u64(w.bytes, before) < 65536) {
+    let mut w = Walk::begin(t);
+    for _ in 0..u64::MAX {
+        let goes_on = w.read_on(rt, file);
+        if w.is_stopped() | !goes_on {
             return w;
         }
         if long {
             say_progress(w.bytes);
         }
-        turns -= 1;
     }
     w
 }

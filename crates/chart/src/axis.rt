@@ -1,13 +1,18 @@
 // An axis: where its ticks are.
-use crate::numbers::{ceil, floor, size};
 
-// digit, 1, 2, 5 or 10, times 10^zeros or 10^-places.
+// 10^n or 10^-n.
+#[derive(Clone, Copy)]
+pub enum Power {
+    Zeros(u32),
+    Places(u32),
+}
+
+// digit, 1, 2, 5 or 10, times a power of ten.
 #[derive(Clone, Copy)]
 pub struct Step {
     pub size: f64,
-    pub digit: u64,
-    pub places: u32,
-    pub zeros: u32,
+    pub digit: u8,
+    pub power: Power,
 }
 
 // first is the number of steps at low.
@@ -19,91 +24,66 @@ pub struct Axis {
     pub step: Step,
 }
 
-// The largest power of ten up to x, which is 1 or more.
-fn power_above(x: f64) -> Step {
+// 1, changed until it is enough, and how often that was: 60 times at most.
+fn changed<C: Fn(f64) -> f64, E: Fn(f64) -> bool>(change: C, is_enough: E) -> (f64, u32)
+    requires change { C.IsAlwaysCallable change }
+    requires is_enough { E.IsAlwaysCallable is_enough }
+{
     let mut size = 1.0;
-    let mut zeros: u32 = 0;
-    while zeros < 60 {
-        if size * 10.0 > x {
-            return Step {
-                size,
-                digit: 1,
-                places: 0,
-                zeros,
-            };
+    for times in 0..60 {
+        if is_enough(size) {
+            return (size, times);
         }
-        size = size * 10.0;
-        zeros += 1;
+        size = change(size);
     }
-    Step {
-        size,
-        digit: 1,
-        places: 0,
-        zeros,
-    }
-}
-
-// The largest power of ten up to x, which is below 1.
-fn power_below(x: f64) -> Step {
-    let mut size = 1.0;
-    let mut places: u32 = 0;
-    while places < 60 {
-        if size <= x {
-            return Step {
-                size,
-                digit: 1,
-                places,
-                zeros: 0,
-            };
-        }
-        size = size / 10.0;
-        places += 1;
-    }
-    Step {
-        size,
-        digit: 1,
-        places,
-        zeros: 0,
-    }
+    (size, 60)
 }
 
 // The largest power of ten up to x.
-fn power(x: f64) -> Step {
-    if x < 1.0 {
-        return power_below(x);
+fn power_of(x: f64) -> Step {
+    let (size, power) = if x < 1.0 {
+        let (size, n) = changed(|s| s / 10.0, |s| s <= x);
+        (size, Power::Places(n))
+    } else {
+        let (size, n) = changed(|s| s * 10.0, |s| s * 10.0 > x);
+        (size, Power::Zeros(n))
+    };
+    Step {
+        size,
+        digit: 1,
+        power,
     }
-    power_above(x)
 }
 
-// A power of ten, so many times: the digit, and the same as a float.
-fn times(step: Step, digit: u64, factor: f64) -> Step {
-    let mut next = step;
-    next.digit = digit;
-    next.size = step.size * factor;
-    next
+impl Step {
+    // A power of ten, so many times.
+    fn times(self, digit: u8) -> Step {
+        Step {
+            size: self.size * f64::from(digit),
+            digit,
+            power: self.power,
+        }
+    }
 }
 
 // The least round step that is x or more.
 fn round_step(x: f64) -> Step {
-    let step = power(x);
+    let step = power_of(x);
     if x <= step.size * 1.000001 {
         return step;
     }
     if x <= step.size * 2.0 {
-        return times(step, 2, 2.0);
+        return step.times(2);
     }
     if x <= step.size * 5.0 {
-        return times(step, 5, 5.0);
+        return step.times(5);
     }
-    times(step, 10, 10.0)
+    step.times(10)
 }
 
 // From 0 to a time; to 1 where that is 0.
 pub fn time_axis(time: f64) -> Axis {
-    let mut high = time;
-    if time <= 0.0 {
-        high = 1.0;
-    }
+    let high = if time <= 0.0 { 1.0 } else { time };
     Axis {
         low: 0.0,
         high,
@@ -115,10 +95,10 @@ pub fn time_axis(time: f64) -> Axis {
 // From a tick to a tick.
 fn ticks_around(low: f64, high: f64) -> Axis {
     let step = round_step((high - low) / 6.0);
-    let first = floor(low / step.size);
+    let first = (low / step.size).floor();
     Axis {
         low: first * step.size,
-        high: ceil(high / step.size) * step.size,
+        high: (high / step.size).ceil() * step.size,
         first,
         step,
     }
@@ -132,6 +112,6 @@ pub fn value_axis(least: f64, greatest: f64) -> Axis {
     if least == 0.0 {
         return ticks_around(-1.0, 1.0);
     }
-    let room = size(least) / 2.0;
+    let room = least.abs() / 2.0;
     ticks_around(least - room, least + room)
 }

@@ -1,58 +1,26 @@
-// Pieces of the picture, on standard output.
-use tools::STDOUT_FILENO;
-
-// Bytes as they are.
-pub fn say(text: &[u8]) {
-    tools::say(STDOUT_FILENO, text);
-}
-
-// A whole number.
-pub fn say_number(n: u64) {
-    tools::say_number(STDOUT_FILENO, n);
-}
+// Pieces of the picture.
+use std::fmt;
 
 // A length in tenths of a pixel.
-pub fn say_tenths(n: u64) {
-    say_number(n / 10);
-    if n % 10 == 0 {
-        return;
+#[derive(Clone, Copy)]
+pub struct Tenths(pub u64);
+
+impl fmt::Display for Tenths {
+    fn fmt<W: fmt::Write>(&self, f: &mut fmt::Formatter<W>) -> fmt::Result {
+        write!(f, "{}", self.0 / 10)?;
+        if self.0 % 10 != 0 {
+            write!(f, ".{}", self.0 % 10)?;
+        }
+        Ok(())
     }
-    say(b".");
-    say_number(n % 10);
 }
 
-// A point, behind the letter of a path.
-pub fn say_point(letter: &[u8], x: u64, y: u64) {
-    say(letter);
-    say_tenths(x);
-    say(b",");
-    say_tenths(y);
-}
+// A point, in tenths of a pixel from the left and from above.
+#[derive(Clone, Copy)]
+pub struct Point(pub u64, pub u64);
 
-// The start of a text in a class, at a point.
-pub fn open_text(class: &[u8], x: u64, y: u64) {
-    say(b"<text class=\"");
-    say(class);
-    say(b"\" x=\"");
-    say_tenths(x);
-    say(b"\" y=\"");
-    say_tenths(y);
-    say(b"\">");
-}
-
-// The end of a text.
-pub fn close_text() {
-    say(b"</text>\n");
-}
-
-// The start of a path in a class.
-pub fn open_path(class: &[u8]) {
-    say(b"<path class=\"");
-    say(class);
-    say(b"\" d=\"");
-}
-
-// The end of a path.
-pub fn close_path() {
-    say(b"\"/>\n");
+impl fmt::Display for Point {
+    fn fmt<W: fmt::Write>(&self, f: &mut fmt::Formatter<W>) -> fmt::Result {
+        write!(f, "{},{}", Tenths(self.0), Tenths(self.1))
+    }
 }

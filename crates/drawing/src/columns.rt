@@ -1,119 +1,117 @@
-// What is drawn, by columns of one pixel: twelve numbers for each of 841. Lengths are in tenths of a pixel.
-use crate::course::Course;
+// What is drawn, by columns of one pixel. Lengths are in tenths of a pixel.
+use crate::course::{Came, Course};
 use crate::frame::{Frame, across, column_at, height_at};
 
-pub type Table = [u64; 10092];
+pub const COLUMNS: usize = 841;
 
-// Where the curve enters the column and leaves it, from above and from the left; its highest and lowest
-// heights. All are 0 in a column without a curve.
-pub const ENTERS: usize = 0;
-
-pub const ENTERS_AT: usize = 1;
-
-pub const LEAVES: usize = 2;
-
-pub const LEAVES_AT: usize = 3;
-
-pub const TOP: usize = 4;
-
-pub const BOTTOM: usize = 5;
-
-pub const PASSES: usize = 6;
-
-// Updates that made more than one pass, and the most passes of one.
-pub const BURSTS: usize = 7;
-
-pub const MOST: usize = 8;
-
-pub const GAPS: usize = 9;
-
-pub const MISSING: usize = 10;
-
-pub const REPEATS: usize = 11;
-
-// One of the numbers of a column; 0 for what the table has not.
-pub fn at(table: &Table, column: usize, which: usize) -> u64 {
-    if column > 840 {
-        return 0;
-    }
-    if which > 11 {
-        return 0;
-    }
-    table[column * 12 + which]
+// Where the curve enters a column and leaves it, from above and from the left; its highest and lowest heights.
+#[derive(Clone, Copy)]
+pub struct Trace {
+    pub enters: u64,
+    pub enters_at: u64,
+    pub leaves: u64,
+    pub leaves_at: u64,
+    pub top: u64,
+    pub bottom: u64,
 }
 
-// Sets one of the numbers of a column.
-fn put(table: &mut Table, column: usize, which: usize, n: u64) {
-    if column > 840 {
-        return;
-    }
-    if which > 11 {
-        return;
-    }
-    table[column * 12 + which] = n;
+#[derive(Clone, Copy)]
+pub struct Column {
+    // The curve, where it comes here.
+    pub trace: Option<Trace>,
+    pub passes: u64,
+    // Updates that made more than one pass, and the most passes of one.
+    pub bursts: u64,
+    pub most: u64,
+    pub gaps: u64,
+    pub missing: u64,
+    pub repeats: u64,
 }
 
-// Adds to one of the numbers of a column.
-fn add(table: &mut Table, column: usize, which: usize, n: u64) {
-    let before = at(table, column, which);
-    put(table, column, which, std::num::wrapping_add_u64(before, n));
+// All columns, and where in the picture a time and a value stand.
+#[derive(Clone, Copy)]
+pub struct Table {
+    pub frame: Frame,
+    pub columns: [Column; COLUMNS],
 }
 
-// The curve comes to a point in a column.
-fn trace(table: &mut Table, column: usize, x: u64, height: u64) {
-    put(table, column, LEAVES, height);
-    put(table, column, LEAVES_AT, x);
-    if at(table, column, ENTERS) == 0 {
-        put(table, column, ENTERS, height);
-        put(table, column, ENTERS_AT, x);
-        put(table, column, TOP, height);
-        put(table, column, BOTTOM, height);
-        return;
+impl Column {
+    fn empty() -> Column {
+        Column {
+            trace: None,
+            passes: 0,
+            bursts: 0,
+            most: 0,
+            gaps: 0,
+            missing: 0,
+            repeats: 0,
+        }
     }
-    if height < at(table, column, TOP) {
-        put(table, column, TOP, height);
-    }
-    if height > at(table, column, BOTTOM) {
-        put(table, column, BOTTOM, height);
-    }
-}
 
-// The passes of one update, in the column where it ends.
-fn note_passes(table: &mut Table, column: usize, passes: u64) {
-    if passes == 0 {
-        return;
+    // The curve comes to a point.
+    fn trace_to(&mut self, x: u64, height: u64) {
+        match &mut self.trace {
+            Some(trace) => {
+                trace.leaves = height;
+                trace.leaves_at = x;
+                trace.top = trace.top.min(height);
+                trace.bottom = trace.bottom.max(height);
+            }
+            None => {
+                self.trace = Some(Trace {
+                    enters: height,
+                    enters_at: x,
+                    leaves: height,
+                    leaves_at: x,
+                    top: height,
+                    bottom: height,
+                });
+            }
+        }
     }
-    add(table, column, PASSES, passes);
-    if passes == 1 {
-        return;
+
+    // The passes of one update that ends here.
+    fn note_passes(&mut self, passes: u64) {
+        self.passes = self.passes.wrapping_add(passes);
+        if passes > 1 {
+            self.bursts = self.bursts.wrapping_add(1);
+            self.most = self.most.max(passes);
+        }
     }
-    add(table, column, BURSTS, 1);
-    if passes > at(table, column, MOST) {
-        put(table, column, MOST, passes);
+
+    // What is missing from here on.
+    fn note_missing(&mut self, gap: u64) {
+        self.gaps = self.gaps.wrapping_add(1);
+        self.missing = self.missing.wrapping_add(gap);
     }
 }
 
-// What the last record of a course adds.
-pub fn note(table: &mut Table, frame: Frame, c: Course) {
-    if !frame.draws {
-        return;
+impl Table {
+    pub fn empty(frame: Frame) -> Table {
+        Table {
+            frame,
+            columns: [Column::empty(); COLUMNS],
+        }
     }
-    let column = column_at(frame, c.time);
-    if c.repeated {
-        add(table, column, REPEATS, 1);
-        return;
+
+    // What the last record of a course adds.
+    pub fn note(&mut self, c: &Course) {
+        let frame = &self.frame;
+        let (x, height) = (across(&frame.time, c.time), height_at(frame, c.value));
+        let (from, to) = (column_at(frame, c.before), column_at(frame, c.time));
+        match c.came {
+            Came::Repeat => {
+                let column = &mut self.columns[to];
+                column.repeats = column.repeats.wrapping_add(1);
+            }
+            Came::Record { gap, folds } => {
+                if gap > 0 {
+                    self.columns[from].note_missing(gap);
+                }
+                let column = &mut self.columns[to];
+                column.note_passes(folds);
+                column.trace_to(x, height);
+            }
+        }
     }
-    if c.gap > 0 {
-        let from = column_at(frame, c.before);
-        add(table, from, GAPS, 1);
-        add(table, from, MISSING, c.gap);
-    }
-    note_passes(table, column, c.folds);
-    let axis = frame.time;
-    trace(
-        table,
-        column,
-        across(axis, c.time),
-        height_at(frame, c.value),
-    );
 }

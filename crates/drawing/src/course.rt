@@ -1,9 +1,17 @@
 // A replay on its way, with what the picture needs of it.
-use chart::numbers::wide;
 use easing::Eased;
 use reader::hear::{Heard, hear};
 use reader::{Last, Replay, step_in};
+use refusal::Refusal;
 use tween::{Tween, Updated};
+
+// What the last record was: the one before again, or one of its own, with what is missing before it and the
+// folds that it made.
+#[derive(Clone, Copy)]
+pub enum Came {
+    Repeat,
+    Record { gap: u64, folds: u64 },
+}
 
 #[derive(Clone, Copy)]
 pub struct Course {
@@ -16,131 +24,93 @@ pub struct Course {
     pub greatest: f32,
     pub records: u64,
     pub repeats: u64,
-    // Of the last record.
-    pub repeated: bool,
-    pub gap: u64,
-    pub folds: u64,
-    // The number of the refusal that stops it, or 0.
-    pub refused: u32,
-    // The file could not be read on.
-    pub failed: bool,
+    pub came: Came,
+    // What stops it.
+    pub refused: Option<Refusal>,
 }
 
-// The value of a tween; the value given where it has none.
-fn value_or(t: Tween, other: f32) -> f32 {
+// The value of a tween, where it has a finite one.
+fn value_in(t: Tween) -> Option<f32> {
     match t.value() {
-        Eased::Value(found) => {
-            if math::is_finite(found.value) {
-                return found.value;
-            }
-            other
+        Eased::Value(found) if math::is_finite(found.value) => Some(found.value),
+        _ => None,
+    }
+}
+
+impl Course {
+    // A tween, before the first record.
+    pub fn begin(t: Tween) -> Course {
+        let value = value_in(t).unwrap_or(0.0);
+        let replay = Replay {
+            tween: t,
+            last: Last::Unread,
+            missing: 0,
+            folds: 0,
+        };
+        Course {
+            replay,
+            time: 0.0,
+            before: 0.0,
+            value,
+            least: value,
+            greatest: value,
+            records: 0,
+            repeats: 0,
+            came: Came::Record { gap: 0, folds: 0 },
+            refused: None,
         }
-        Eased::Refused(_) => other,
     }
-}
 
-// A tween, before the first record.
-pub fn begin(t: Tween) -> Course {
-    let value = value_or(t, 0.0);
-    let replay = Replay {
-        tween: t,
-        last: Last::Unread,
-        missing: 0,
-        folds: 0,
-    };
-    Course {
-        replay,
-        time: 0.0,
-        before: 0.0,
-        value,
-        least: value,
-        greatest: value,
-        records: 0,
-        repeats: 0,
-        repeated: false,
-        gap: 0,
-        folds: 0,
-        refused: 0,
-        failed: false,
+    // With a record that is the one before again.
+    fn repeat(&mut self) {
+        self.records = self.records.wrapping_add(1);
+        self.repeats = self.repeats.wrapping_add(1);
+        self.came = Came::Repeat;
     }
-}
 
-// The course, stopped by a refusal.
-fn stopped(c: Course, number: u32) -> Course {
-    let mut next = c;
-    next.refused = number;
-    next
-}
-
-// The course with a record that is the one before again.
-fn repeated(c: Course) -> Course {
-    let mut next = c;
-    next.records = std::num::wrapping_add_u64(c.records, 1);
-    next.repeats = std::num::wrapping_add_u64(c.repeats, 1);
-    next.repeated = true;
-    next
-}
-
-// The course with its next value.
-fn with_value(c: Course, value: f32) -> Course {
-    let mut next = c;
-    next.value = value;
-    if value < c.least {
-        next.least = value;
-    }
-    if value > c.greatest {
-        next.greatest = value;
-    }
-    next
-}
-
-// The course goes on to a replay, by so many seconds.
-fn gone(c: Course, to: Replay, gap: u64, seconds: f64) -> Course {
-    let mut next = c;
-    let was = c.replay;
-    next.folds = std::num::wrapping_sub_u64(to.folds, was.folds);
-    next.replay = to;
-    next.before = c.time;
-    next.time = c.time + seconds;
-    next.records = std::num::wrapping_add_u64(c.records, 1);
-    next.repeated = false;
-    next.gap = gap;
-    let t = to.tween;
-    with_value(next, value_or(t, c.value))
-}
-
-// With the next record.
-pub fn heard(c: Course, bytes: [u8; 8]) -> Course {
-    let replay = c.replay;
-    match hear(replay, bytes) {
-        Heard::Goes(gap, to) => {
-            if gap == 65535 {
-                return repeated(c);
-            }
-            gone(c, to, gap as u64, wide(step_in(bytes)))
+    // Goes on to a replay, by so many seconds.
+    fn go(&mut self, to: Replay, gap: u64, seconds: f64) {
+        let folds = to.folds.wrapping_sub(self.replay.folds);
+        self.came = Came::Record { gap, folds };
+        self.replay = to;
+        self.before = self.time;
+        self.time += seconds;
+        self.records = self.records.wrapping_add(1);
+        self.value = value_in(to.tween).unwrap_or(self.value);
+        if self.value < self.least {
+            self.least = self.value;
         }
-        Heard::Stops(refusal) => stopped(c, refusal.number()),
+        if self.value > self.greatest {
+            self.greatest = self.value;
+        }
     }
-}
 
-// With an update that no record asks for.
-pub fn stepped(c: Course, step: f32) -> Course {
-    let replay = c.replay;
-    let t = replay.tween;
-    match t.update(step) {
-        Updated::Ran {
-            tween,
-            folds,
-            running: _,
-        } => {
-            let to = Replay {
+    // With the next record.
+    pub fn hear(&mut self, bytes: [u8; 8]) {
+        match hear(self.replay, bytes) {
+            Heard::Goes(65535, _) => self.repeat(),
+            Heard::Goes(gap, to) => self.go(to, u64::from(gap), f64::from(step_in(bytes))),
+            Heard::Stops(refusal) => self.refused = Some(refusal),
+        }
+    }
+
+    // With an update that no record asks for.
+    pub fn step(&mut self, step: f32) {
+        match self.replay.tween.update(step) {
+            Updated::Ran {
                 tween,
-                last: Last::Unread,
-                missing: 0,
-                folds: std::num::wrapping_add_u64(replay.folds, folds as u64),
-            };
-            gone(c, to, 0, wide(step))
+                folds,
+                running: _,
+            } => {
+                let to = Replay {
+                    tween,
+                    last: Last::Unread,
+                    missing: 0,
+                    folds: self.replay.folds.wrapping_add(u64::from(folds)),
+                };
+                self.go(to, 0, f64::from(step));
+            }
+            Updated::Refused { tween: _, refusal } => self.refused = Some(refusal),
         }
-        Updated::Refused { tween: _, refusal } => stopped(c, refusal.number()),
     }
 }

@@ -1,70 +1,66 @@
 // The setpoint as one path.
-use crate::columns::{BOTTOM, ENTERS, ENTERS_AT, LEAVES, LEAVES_AT, TOP, Table, at};
-use chart::svg::{close_path, open_path, say, say_point, say_tenths};
+use crate::columns::{Table, Trace};
+use chart::svg::{Point, Tenths};
+use std::io;
+use std::rt::HostRuntime;
 
 // A line straight up or down, to a height.
-fn rise(to: u64) {
-    say(b"V");
-    say_tenths(to);
+fn rise(rt: &HostRuntime, to: u64) -> io::Result<()> {
+    print!(rt; "V{}", Tenths(to))
 }
 
 // The highest and lowest points of a column, where the curve does not enter or leave there.
-fn extremes(top: u64, bottom: u64, enters: u64, leaves: u64) {
-    if enters < leaves {
-        if top < enters {
-            rise(top);
+fn extremes(rt: &HostRuntime, trace: &Trace) -> io::Result<()> {
+    let (top, bottom) = (trace.top, trace.bottom);
+    if trace.enters < trace.leaves {
+        if top < trace.enters {
+            rise(rt, top)?;
         }
-        if bottom > leaves {
-            rise(bottom);
+        if bottom > trace.leaves {
+            rise(rt, bottom)?;
         }
-        return;
+    } else {
+        if bottom > trace.enters {
+            rise(rt, bottom)?;
+        }
+        if top < trace.leaves {
+            rise(rt, top)?;
+        }
     }
-    if bottom > enters {
-        rise(bottom);
-    }
-    if top < leaves {
-        rise(top);
-    }
+    Ok(())
 }
 
 // The curve in a column, behind the letter that leads to it.
-fn column(table: &Table, x: usize, letter: &[u8]) {
-    let enters = at(table, x, ENTERS);
-    let leaves = at(table, x, LEAVES);
-    let top = at(table, x, TOP);
-    let bottom = at(table, x, BOTTOM);
-    let from = at(table, x, ENTERS_AT);
-    let to = at(table, x, LEAVES_AT);
-    say_point(letter, from, enters);
-    if (from == to) & (top == bottom) {
-        return;
+fn through(rt: &HostRuntime, trace: &Trace, letter: char) -> io::Result<()> {
+    print!(rt; "{letter}{}", Point(trace.enters_at, trace.enters))?;
+    if (trace.enters_at == trace.leaves_at) & (trace.top == trace.bottom) {
+        return Ok(());
     }
-    extremes(top, bottom, enters, leaves);
-    say_point(b"L", to, leaves);
+    extremes(rt, trace)?;
+    print!(rt; "L{}", Point(trace.leaves_at, trace.leaves))
 }
 
-// The curve in each column but the first.
-fn columns(table: &Table) {
-    let mut x: usize = 1;
-    while x < 841 {
-        if at(table, x, ENTERS) > 0 {
-            column(table, x, b"L");
+pub fn curve(rt: &HostRuntime, table: &Table) -> io::Result<()> {
+    print!(rt; "<path class=\"curve\" d=\"")?;
+    let mut letter = 'M';
+    for column in &table.columns {
+        if let Some(trace) = &column.trace {
+            through(rt, trace, letter)?;
+            letter = 'L';
         }
-        x += 1;
     }
-}
-
-// The curve, from the first column on.
-pub fn curve(table: &Table) {
-    open_path(b"curve");
-    column(table, 0, b"M");
-    columns(table);
-    close_path();
+    println!(rt; "\"/>")
 }
 
 // Where the time is 0 there is a point and no curve.
-pub fn point(table: &Table) {
-    say(b"<circle r=\"4\" class=\"point\" cx=\"80\" cy=\"");
-    say_tenths(at(table, 0, LEAVES));
-    say(b"\"/>\n");
+pub fn point(rt: &HostRuntime, table: &Table) -> io::Result<()> {
+    match &table.columns[0].trace {
+        Some(trace) => {
+            println!(rt;
+                "<circle r=\"4\" class=\"point\" cx=\"80\" cy=\"{}\"/>",
+                Tenths(trace.leaves)
+            )
+        }
+        None => Ok(()),
+    }
 }

@@ -1,61 +1,69 @@
 // Marks: what is missing, passes, repeats, and where the replay stops.
-use crate::columns::{GAPS, PASSES, REPEATS, Table, at};
+use crate::columns::{Column, Table};
 use crate::course::Course;
-use crate::frame::{Frame, HIGH, LOW, across};
-use chart::svg::{close_path, open_path, say, say_number, say_point};
+use crate::frame::{HIGH, LOW, across};
+use chart::svg::Point;
+use std::io;
+use std::rt::HostRuntime;
 
 // The middle of a column.
 pub fn middle(column: usize) -> u64 {
-    if column > 840 {
-        return 9200;
-    }
-    800 + (column as u64) * 10
+    800 + (column.min(840) as u64) * 10
 }
 
-// The same shape in each column that has something of a kind.
-fn shapes(table: &Table, which: usize, y: u64, shape: &[u8]) {
-    let mut x: usize = 0;
-    while x < 841 {
-        if at(table, x, which) > 0 {
-            say_point(b"M", middle(x), y);
-            say(shape);
+// The same shape in each column that has something of a kind, as a path in its class.
+fn shapes<F: Fn(&Column) -> u64>(
+    rt: &HostRuntime,
+    table: &Table,
+    class: &str,
+    count: F,
+    y: u64,
+    shape: &str,
+) -> io::Result<()>
+    requires { F.IsAlwaysCallable count }
+{
+    print!(rt; "<path class=\"{class}\" d=\"")?;
+    for (x, column) in table.columns.iter().enumerate() {
+        if count(column) > 0 {
+            print!(rt; "M{}{shape}", Point(middle(x), y))?;
         }
-        x += 1;
     }
+    println!(rt; "\"/>")
 }
 
 // A band over the whole height for what is missing, ticks below the axis for passes, and triangles above
 // the field for repeats.
-pub fn marks(table: &Table, c: Course) {
-    let replay = c.replay;
-    if replay.missing > 0 {
-        open_path(b"gap");
-        shapes(table, GAPS, HIGH, b"v282");
-        close_path();
+pub fn marks(rt: &HostRuntime, table: &Table, c: &Course) -> io::Result<()> {
+    if c.replay.missing > 0 {
+        shapes(rt, table, "gap", |column| column.gaps, HIGH, "v282")?;
     }
-    if replay.folds > 0 {
-        open_path(b"pass");
-        shapes(table, PASSES, LOW, b"v6");
-        close_path();
+    if c.replay.folds > 0 {
+        shapes(rt, table, "pass", |column| column.passes, LOW, "v6")?;
     }
     if c.repeats > 0 {
-        open_path(b"repeat");
-        shapes(table, REPEATS, HIGH, b"l-3,-6h6z");
-        close_path();
+        shapes(
+            rt,
+            table,
+            "repeat",
+            |column| column.repeats,
+            HIGH,
+            "l-3,-6h6z",
+        )?;
     }
+    Ok(())
 }
 
 // A red line where a record is refused.
-pub fn stop(frame: Frame, c: Course) {
-    if c.refused == 0 {
-        return;
+pub fn stop(rt: &HostRuntime, table: &Table, c: &Course) -> io::Result<()> {
+    match c.refused {
+        Some(refusal) => {
+            let top = Point(across(&table.frame.time, c.time), HIGH);
+            println!(rt; "<path class=\"stop\" d=\"M{top}v282\"/>")?;
+            println!(rt;
+                "<text class=\"stopped\" x=\"950\" y=\"76\">refused {}</text>",
+                refusal.number()
+            )
+        }
+        None => Ok(()),
     }
-    let axis = frame.time;
-    open_path(b"stop");
-    say_point(b"M", across(axis, c.time), HIGH);
-    say(b"v282");
-    close_path();
-    say(b"<text class=\"stopped\" x=\"950\" y=\"76\">refused ");
-    say_number(c.refused as u64);
-    say(b"</text>\n");
 }

@@ -3,129 +3,126 @@ use crate::columns::Table;
 use crate::course::Course;
 use crate::curve::{curve, point};
 use crate::field::{axes, grid};
-use crate::frame::Frame;
 use crate::labels::labels;
 use crate::marks::{marks, stop};
 use crate::title::title;
-use chart::svg::{say, say_number};
+use std::rt::HostRuntime;
+use std::{fmt, io};
 use tween::Tween;
 
 // The start of the file, with the look of each class.
-fn head() {
-    say(
-        b"<svg xmlns=\"http://www.w3.org/2000/svg\" viewBox=\"0 0 960 420\" width=\"960\" height=\"420\">\n",
-    );
-    say(b"<style>text{font-family:sans-serif;font-size:11px;fill:#222}\n");
-    say(b".title{font-size:13px;font-weight:bold}.sum{font-size:12px}\n");
-    say(b".t{text-anchor:middle}.v,.more,.stopped{text-anchor:end}.more{fill:#666}\n");
-    say(b"path{fill:none}.grid{stroke:#ddd}.axis{stroke:#222}\n");
-    say(
-        b".curve{stroke:#0b5394;stroke-width:1.6;stroke-linejoin:round;stroke-linecap:round}.point{fill:#0b5394}\n",
-    );
-    say(
-        b".gap{stroke:#f2b632;stroke-opacity:.6;stroke-width:6}.missing{fill:#8a5a00}.gaps{fill:#f2b632}\n",
-    );
-    say(b".pass{stroke:#444}.burst{stroke:#222;stroke-dasharray:3 3}\n");
-    say(
-        b".repeat,.repeats{fill:#7b3294}.stop{stroke:#c00;stroke-width:2}.stopped{fill:#c00}</style>\n",
-    );
-    say(b"<rect width=\"960\" height=\"420\" fill=\"#fff\"/>\n");
+const HEAD: &str =
+    "<svg xmlns=\"http://www.w3.org/2000/svg\" viewBox=\"0 0 960 420\" width=\"960\" height=\"420\">
+<style>text{font-family:sans-serif;font-size:11px;fill:#222}
+.title{font-size:13px;font-weight:bold}.sum{font-size:12px}
+.t{text-anchor:middle}.v,.more,.stopped{text-anchor:end}.more{fill:#666}
+path{fill:none}.grid{stroke:#ddd}.axis{stroke:#222}
+.curve{stroke:#0b5394;stroke-width:1.6;stroke-linejoin:round;stroke-linecap:round}.point{fill:#0b5394}
+.gap{stroke:#f2b632;stroke-opacity:.6;stroke-width:6}.missing{fill:#8a5a00}.gaps{fill:#f2b632}
+.pass{stroke:#444}.burst{stroke:#222;stroke-dasharray:3 3}
+.repeat,.repeats{fill:#7b3294}.stop{stroke:#c00;stroke-width:2}.stopped{fill:#c00}</style>
+<rect width=\"960\" height=\"420\" fill=\"#fff\"/>";
+
+// A count with its noun, behind a sign in the colour of its marks; nothing for 0.
+#[derive(Clone, Copy)]
+struct Count<'a> {
+    n: u64,
+    sign: &'a str,
+    one: &'a str,
+    many: &'a str,
 }
 
-// A count with its noun, behind a sign in the colour of its marks.
-fn count(n: u64, sign: &[u8], one: &[u8], many: &[u8]) {
-    if n == 0 {
-        return;
-    }
-    say(b" &#160; ");
-    say(sign);
-    say(b" ");
-    say_number(n);
-    if n == 1 {
-        say(one);
-        return;
-    }
-    say(many);
-}
-
-// The start of the line below the title.
-fn open_sum() {
-    say(b"<text class=\"sum\" x=\"80\" y=\"40\">");
-}
-
-// The counts of what is marked, and the end of the line.
-fn say_marks(c: Course) {
-    let replay = c.replay;
-    count(replay.folds, b"|", b" pass", b" passes");
-    count(
-        replay.missing,
-        b"<tspan class=\"gaps\">&#9632;</tspan>",
-        b" record missing by the numbers",
-        b" records missing by the numbers",
-    );
-    count(
-        c.repeats,
-        b"<tspan class=\"repeats\">&#9660;</tspan>",
-        b" repeat",
-        b" repeats",
-    );
-    say(b"</text>\n");
-}
-
-// What the log holds, in short.
-fn sum_of_log(c: Course) {
-    open_sum();
-    say_number(c.records);
-    if c.records == 1 {
-        say(b" record");
-    } else {
-        say(b" records");
-    }
-    say_marks(c);
-}
-
-// shown is how many passes are drawn, of all; all is 0 where they have no end.
-fn sum_of_ramp(c: Course, shown: u32, all: u32) {
-    open_sum();
-    say(b"the ramp alone");
-    if shown != all {
-        say(b", first ");
-        say_number(shown as u64);
-        if all != 0 {
-            say(b" of ");
-            say_number(all as u64);
+impl<'a> fmt::Display for Count<'a> {
+    fn fmt<W: fmt::Write>(&self, f: &mut fmt::Formatter<W>) -> fmt::Result {
+        match self.n {
+            0 => Ok(()),
+            1 => write!(f, " &#160; {} 1 {}", self.sign, self.one),
+            n => write!(f, " &#160; {} {n} {}", self.sign, self.many),
         }
-        say(b" passes");
     }
-    say_marks(c);
+}
+
+// The counts of what is marked, and the end of their line.
+fn print_marks(rt: &HostRuntime, c: &Course) -> io::Result<()> {
+    let passes = Count {
+        n: c.replay.folds,
+        sign: "|",
+        one: "pass",
+        many: "passes",
+    };
+    let missing = Count {
+        n: c.replay.missing,
+        sign: "<tspan class=\"gaps\">&#9632;</tspan>",
+        one: "record missing by the numbers",
+        many: "records missing by the numbers",
+    };
+    let repeats = Count {
+        n: c.repeats,
+        sign: "<tspan class=\"repeats\">&#9660;</tspan>",
+        one: "repeat",
+        many: "repeats",
+    };
+    println!(rt; "{passes}{missing}{repeats}</text>")
+}
+
+// How many passes of a ramp are drawn, and of how many; None where they have no end.
+#[derive(Clone, Copy)]
+pub struct Shown {
+    pub passes: u32,
+    pub of: Option<u32>,
+}
+
+// Which passes they are, where they are not all.
+fn print_shown(rt: &HostRuntime, shown: Shown) -> io::Result<()> {
+    match shown.of {
+        Some(all) if all == shown.passes => Ok(()),
+        Some(all) => print!(rt; ", first {} of {all} passes", shown.passes),
+        None => print!(rt; ", first {} passes", shown.passes),
+    }
 }
 
 // All below the two lines of text.
-fn body(table: &Table, frame: Frame, c: Course) {
-    grid(frame);
-    axes(frame);
-    curve(table);
+fn body(rt: &HostRuntime, table: &Table, c: &Course) -> io::Result<()> {
+    let frame = &table.frame;
+    grid(rt, frame)?;
+    axes(rt, frame)?;
+    curve(rt, table)?;
     if c.time <= 0.0 {
-        point(table);
+        point(rt, table)?;
     }
-    marks(table, c);
-    labels(table, c.refused != 0);
-    stop(frame, c);
-    say(b"</svg>\n");
+    marks(rt, table, c)?;
+    labels(rt, table, c.refused.is_some())?;
+    stop(rt, table, c)?;
+    println!(rt; "</svg>")
+}
+
+// The start of the line below the title, behind all above it.
+fn open(rt: &HostRuntime, t: Tween) -> io::Result<()> {
+    println!(rt; "{HEAD}")?;
+    title(rt, t)?;
+    print!(rt; "<text class=\"sum\" x=\"80\" y=\"40\">")
 }
 
 // The picture of a log that was replayed into a ramp.
-pub fn picture_of_log(t: Tween, table: &Table, frame: Frame, c: Course) {
-    head();
-    title(t);
-    sum_of_log(c);
-    body(table, frame, c);
+pub fn picture_of_log(rt: &HostRuntime, t: Tween, table: &Table, c: &Course) -> io::Result<()> {
+    open(rt, t)?;
+    let noun = if c.records == 1 { "record" } else { "records" };
+    print!(rt; "{} {noun}", c.records)?;
+    print_marks(rt, c)?;
+    body(rt, table, c)
 }
 
-// The picture of a ramp alone: so many of its passes.
-pub fn picture_of_ramp(t: Tween, table: &Table, frame: Frame, c: Course, shown: u32, all: u32) {
-    head();
-    title(t);
-    sum_of_ramp(c, shown, all);
-    body(table, frame, c);
+// The picture of a ramp alone.
+pub fn picture_of_ramp(
+    rt: &HostRuntime,
+    t: Tween,
+    table: &Table,
+    c: &Course,
+    shown: Shown,
+) -> io::Result<()> {
+    open(rt, t)?;
+    print!(rt; "the ramp alone")?;
+    print_shown(rt, shown)?;
+    print_marks(rt, c)?;
+    body(rt, table, c)
 }

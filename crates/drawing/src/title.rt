@@ -1,41 +1,38 @@
 // The ramp in short.
-use chart::svg::say;
-use tools::STDOUT_FILENO;
+use std::io;
+use std::rt::HostRuntime;
+use tools::{STDOUT_FILENO, say_float};
 use tween::Tween;
 use words::LaxTween;
 
-// A decimal that reads back.
-fn say_float(x: f32) {
-    tools::say_float(STDOUT_FILENO, x);
-}
-
 // The duration, the delay and the time scale.
-fn say_times(t: LaxTween) {
-    say_float(t.duration);
-    say(b" s");
+fn say_times(rt: &HostRuntime, t: &LaxTween) -> io::Result<()> {
+    say_float(STDOUT_FILENO, t.duration);
+    print!(rt; " s")?;
     if t.delay > 0.0 {
-        say(b" after a delay of ");
-        say_float(t.delay);
-        say(b" s");
+        print!(rt; " after a delay of ")?;
+        say_float(STDOUT_FILENO, t.delay);
+        print!(rt; " s")?;
     }
     if t.time_scale != 1.0 {
-        say(b", scale ");
-        say_float(t.time_scale);
+        print!(rt; ", scale ")?;
+        say_float(STDOUT_FILENO, t.time_scale);
     }
+    Ok(())
 }
 
 // The line above the picture.
-pub fn title(t: Tween) {
+pub fn title(rt: &HostRuntime, t: Tween) -> io::Result<()> {
     let w = words::tween_words(t);
-    say(b"<text class=\"title\" x=\"80\" y=\"22\">");
-    say_float(w.start);
-    say(b" to ");
-    say_float(w.end);
-    say(b" in ");
-    say_times(w);
-    say(b", ");
+    print!(rt; "<text class=\"title\" x=\"80\" y=\"22\">")?;
+    say_float(STDOUT_FILENO, w.start);
+    print!(rt; " to ")?;
+    say_float(STDOUT_FILENO, w.end);
+    print!(rt; " in ")?;
+    say_times(rt, &w)?;
+    print!(rt; ", ")?;
     tools::say_mode(STDOUT_FILENO, w.looping);
-    say(b", ");
+    print!(rt; ", ")?;
     tools::say_easing(STDOUT_FILENO, w.easing);
-    say(b"</text>\n");
+    println!(rt; "</text>")
 }

@@ -1,29 +1,28 @@
 // The ramp alone, by steps of a column each.
-use drawing::columns::{Table, note};
-use drawing::course::{Course, begin, stepped};
-use drawing::frame::{Frame, frame_of};
-use drawing::picture::picture_of_ramp;
+use drawing::columns::{COLUMNS, Table};
+use drawing::course::Course;
+use drawing::frame::frame_of;
+use drawing::picture::{Shown, picture_of_ramp};
 use loop_mode::PassLimit;
+use std::rt::HostRuntime;
 use tween::Tween;
 
-// How many passes there are; 0 where they have no end.
-fn passes_of(t: Tween) -> u32 {
-    let looping = t.looping;
-    match looping.pass_limit() {
-        PassLimit::Passes(n) => n,
-        PassLimit::Endless => 0,
+// How many passes there are, where they have an end.
+fn passes_of(t: Tween) -> Option<u32> {
+    match t.looping.pass_limit() {
+        PassLimit::Passes(n) => Some(n),
+        PassLimit::Endless => None,
     }
 }
 
-// How many passes are drawn: all of a few, the first three of others.
-fn passes_shown(all: u32) -> u32 {
-    if all == 0 {
-        return 3;
-    }
-    if all > 8 {
-        return 3;
-    }
-    all
+// All passes of a few, the first three of others.
+fn shown_of(t: Tween) -> Shown {
+    let of = passes_of(t);
+    let passes = match of {
+        Some(all) if all <= 8 => all,
+        _ => 3,
+    };
+    Shown { passes, of }
 }
 
 // How long a pass takes; with a time scale of 0 it has no end, and its start is shown.
@@ -35,43 +34,35 @@ fn pass_time(t: Tween) -> f32 {
 }
 
 // The steps are within an update's limit.
-fn step_of(t: Tween, shown: u32) -> f32 {
-    let lasts = t.delay + std::num::nearest_u32_to_f32(shown) * pass_time(t);
+fn step_of(t: Tween, passes: u32) -> f32 {
+    let lasts = t.delay + std::num::nearest_u32_to_f32(passes) * pass_time(t);
     math::clamp(lasts / 840.0, 0.0, 16777216.0)
 }
 
-// One step more than there are columns, so that the last pass is at its end.
-fn walk(first: Course, step: f32, frame: Frame, table: &mut Table) -> Course {
-    let mut c = first;
-    note(table, frame, c);
-    let mut i: u32 = 0;
-    while i < 841 {
-        c = stepped(c, step);
-        if c.refused != 0 {
+// A step for each column, so that the last pass is at its end. `note` is called at the start and behind each step.
+fn walk<F: FnMut(&Course)>(t: Tween, step: f32, mut note: F) -> Course
+    requires { (state : F) (c : _) → F.pre state c }
+{
+    let mut c = Course::begin(t);
+    note(&c);
+    for _ in 0..COLUMNS {
+        c.step(step);
+        if c.refused.is_some() {
             return c;
         }
-        note(table, frame, c);
-        i += 1;
+        note(&c);
     }
     c
 }
 
-// The course with the time before its last step.
-fn without_last(c: Course) -> Course {
-    let mut next = c;
-    next.time = c.before;
-    next
-}
-
 // Draws a ramp with no log.
-pub fn draw_alone(t: Tween) {
-    let mut table = [0u64; 10092];
-    let all = passes_of(t);
-    let shown = passes_shown(all);
-    let step = step_of(t, shown);
-    let start = begin(t);
-    let seen = walk(start, step, frame_of(false, start), &mut table);
-    let frame = frame_of(true, without_last(seen));
-    let c = walk(start, step, frame, &mut table);
-    picture_of_ramp(t, &table, frame, c, shown, all);
+pub fn draw_alone(rt: &HostRuntime, t: Tween) {
+    let shown = shown_of(t);
+    let step = step_of(t, shown.passes);
+    let mut seen = walk(t, step, |_| {});
+    // the last step only makes the end sure
+    seen.time = seen.before;
+    let mut table = Table::empty(frame_of(&seen));
+    let c = walk(t, step, |c| table.note(c));
+    let _written = picture_of_ramp(rt, t, &table, &c, shown);
 }

@@ -1,109 +1,94 @@
 // The log, gone over twice: for what it holds, and to draw it.
 use crate::refusing::{refuse, unread};
-use drawing::columns::{Table, note};
-use drawing::course::{Course, begin, heard};
-use drawing::frame::{Frame, frame_of};
+use drawing::columns::Table;
+use drawing::course::Course;
+use drawing::frame::frame_of;
 use drawing::picture::picture_of_log;
 use reader::record_at;
+use refusal::Refusal;
 use std::fs::File;
 use std::io::{Seek, SeekFrom};
 use std::rt::HostRuntime;
 use tools::{Head, Length, STDERR_FILENO, end_unreadable};
 use tween::Tween;
 
-// Over the records of a chunk, until one is refused.
-fn over_records(bytes: &[u8], first: Course, frame: Frame, table: &mut Table) -> Course {
-    let mut c = first;
-    let mut i: usize = 0;
-    while i < bytes.len() / 8 {
-        c = heard(c, record_at(bytes, i));
-        if c.refused != 0 {
-            return c;
+// Over the records of a part, until one is refused.
+fn over_records<F: FnMut(&Course)>(c: &mut Course, part: &[u8], mut note: F)
+    requires { (state : F) (c : _) → F.pre state c }
+{
+    for i in 0..part.len() / 8 {
+        c.hear(record_at(part, i));
+        if c.refused.is_some() {
+            return;
         }
-        note(table, frame, c);
-        i += 1;
+        note(c);
     }
-    c
 }
 
-// Over the next chunk of a file.
-fn over_chunk(
-    rt: &HostRuntime,
-    file: &mut File,
-    c: Course,
-    frame: Frame,
-    table: &mut Table,
-) -> Course {
+// Over the next part of a file; whether it could be read.
+fn over_part<F: FnMut(&Course)>(rt: &HostRuntime, file: &mut File, c: &mut Course, note: F) -> bool
+    requires { (state : F) (c : _) → F.pre state c }
+{
     let mut buffer = io::large_buffer();
     let filled = tools::fill_from(rt, file, 2, &mut buffer);
     if filled.failed {
-        let mut next = c;
-        next.failed = true;
-        return next;
+        return false;
     }
-    let length = filled.bytes;
-    over_records(&buffer[..length], c, frame, table)
+    over_records(c, &buffer[..filled.bytes], note);
+    true
 }
 
-// Over so many chunks.
-fn over_chunks(
+// Over so many parts, until a record is refused. `note` is called at the start and behind each record. None where
+// a part can't be read.
+fn over_parts<F: FnMut(&Course)>(
     rt: &HostRuntime,
     file: &mut File,
-    chunks: u64,
-    first: Course,
-    frame: Frame,
-    table: &mut Table,
-) -> Course {
-    let mut c = first;
-    note(table, frame, c);
-    let mut left = chunks;
-    while left > 0 {
-        c = over_chunk(rt, file, c, frame, table);
-        if c.failed {
-            return c;
+    parts: u64,
+    t: Tween,
+    mut note: F,
+) -> Option<Course>
+    requires { (state : F) (c : _) → F.pre state c }
+{
+    let mut c = Course::begin(t);
+    note(&c);
+    for _ in 0..parts {
+        if !over_part(rt, file, &mut c, &mut note) {
+            return None;
         }
-        if c.refused != 0 {
-            return c;
+        if c.refused.is_some() {
+            break;
         }
-        left -= 1;
     }
-    c
+    Some(c)
 }
 
 // Goes over the records, then back to the first to draw them.
-fn draw_chunks(rt: &HostRuntime, file: &mut File, t: Tween, chunks: u64) {
-    let mut table = [0u64; 10092];
-    let start = begin(t);
-    let seen = over_chunks(rt, file, chunks, start, frame_of(false, start), &mut table);
-    if seen.failed {
+fn draw_parts(rt: &HostRuntime, file: &mut File, t: Tween, parts: u64) {
+    let Some(seen) = over_parts(rt, file, parts, t, |_| {}) else {
         end_unreadable();
         return;
-    }
-    let frame = frame_of(true, seen);
+    };
     let Ok(5) = file.seek(SeekFrom::Start(5)) else {
         unread(rt);
         return;
     };
-    let c = over_chunks(rt, file, chunks, start, frame, &mut table);
-    if c.failed {
+    let mut table = Table::empty(frame_of(&seen));
+    let Some(c) = over_parts(rt, file, parts, t, |c| table.note(c)) else {
         end_unreadable();
         return;
-    }
-    picture_of_log(t, &table, frame, c);
+    };
+    let _written = picture_of_log(rt, t, &table, &c);
 }
 
 // A file of so many bytes.
 fn draw_bytes(rt: &HostRuntime, file: &mut File, t: Tween, length: u64) {
     match tools::read_head(rt, file, 2, Length::Bytes(length)) {
-        Head::Whole => {
-            if length < 5 {
-                unread(rt);
-                return;
-            }
-            draw_chunks(rt, file, t, (length - 5) / 65536 + 1);
-        }
+        Head::Whole => match length.checked_sub(5) {
+            Some(bytes) => draw_parts(rt, file, t, bytes / 65536 + 1),
+            None => unread(rt),
+        },
         Head::Refused(number) => refuse(rt, 2, number),
-        Head::Empty => refuse(rt, 2, 15),
+        Head::Empty => refuse(rt, 2, Refusal::WrongMark.number()),
         Head::Unreadable => end_unreadable(),
     }
 }

@@ -8,6 +8,7 @@ mod alone;
 mod log;
 mod refusing;
 
+use refusal::Refusal;
 use tools::RampRead;
 use tween::Tween;
 
@@ -37,7 +38,7 @@ fn is_called(rt: &HostRuntime) -> bool {
 // Draws the log that the second argument names, or the ramp alone.
 fn draw(rt: &HostRuntime, t: Tween) {
     if !tools::has_argument(rt, 2) {
-        alone::draw_alone(t);
+        alone::draw_alone(rt, t);
         return;
     }
     let Some(mut file) = tools::open_argument(rt, 2) else {
@@ -56,7 +57,7 @@ fn main(rt: HostRuntime) {
         return;
     };
     if !tween::within(t) {
-        refusing::refuse(&rt, 1, 4);
+        refusing::refuse(&rt, 1, Refusal::RecordBreaksLimit.number());
         return;
     }
     draw(&rt, t);

@@ -1,4 +1,5 @@
 // The calls of an easing.
+use crate::call::EasingCall;
 use easing::Easing;
 use rows::{
     Row, accepted, easing_at, equality_row, flag_row, float_at, put_easing, unknown, value_row,
@@ -14,28 +15,21 @@ fn eq(x: Easing, w: LaxEasing) -> Row {
     }
 }
 
-fn known(call: u32, e: Easing, words: [u32; 1024]) -> Row {
+pub fn answer(call: EasingCall, words: [u32; 1024]) -> Row {
+    let EasingRead::Known(e) = easing_of(easing_at(words, 0)) else {
+        return unknown();
+    };
     match call {
-        1 => value_row(e.apply(Progress(float_at(words, 6)))),
-        2 => eq(e, easing_at(words, 6)),
-        _ => flag_row(e.is_supplied()),
+        EasingCall::Apply => value_row(e.apply(Progress(float_at(words, 6)))),
+        EasingCall::Eq => eq(e, easing_at(words, 6)),
+        EasingCall::IsSupplied => flag_row(e.is_supplied()),
     }
 }
 
-fn named(place: u32) -> Row {
-    if place < 38 {
-        let all = Easing::all_named();
-        return put_easing(accepted(), easing_words(all[place as usize]));
-    }
-    unknown()
-}
-
-pub fn answer(call: u32, words: [u32; 1024]) -> Row {
-    if call == 4 {
-        return named(word(words, 0));
-    }
-    match easing_of(easing_at(words, 0)) {
-        EasingRead::Known(e) => known(call, e, words),
-        EasingRead::Unknown => unknown(),
+// The easing at a place among those with a name.
+pub fn named(words: [u32; 1024]) -> Row {
+    match Easing::all_named().get(word(words, 0) as usize) {
+        Some(e) => put_easing(accepted(), easing_words(*e)),
+        None => unknown(),
     }
 }

@@ -2,6 +2,7 @@
 // call were compared, and how many differ.
 #![tactic(auto)]
 
+mod call;
 mod easings;
 mod read;
 mod report;
@@ -15,9 +16,9 @@ use tools::STDERR_FILENO;
 // The list that a path names.
 fn answer(rt: &HostRuntime, path: &[u8]) {
     match tools::open_read(rt, path) {
-        Ok(file) => {
-            let mut list = file;
-            report::all(walk::all(&mut list));
+        Ok(mut list) => {
+            // what can't be written of the report is missing at its end
+            let _written = report::all(rt, walk::all(&mut list));
         }
         Err(error) => {
             tools::say(STDERR_FILENO, path);

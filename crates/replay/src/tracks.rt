@@ -1,4 +1,5 @@
 // The calls of a track.
+use crate::call::TrackCall;
 use keyframe::{Changed, Outcome, Stepped, Track, Updated};
 use rows::{
     Row, accepted, completion_row, count_word, easing_at, flag_row, float_at, floats_at, kept,
@@ -74,42 +75,32 @@ fn values_at(t: Track, words: [u32; 1024]) -> Row {
     put_floats(p, values, room)
 }
 
-fn read(call: u32, t: Track, secs: f32) -> Row {
+fn known(call: TrackCall, w: LaxTrack, words: [u32; 1024]) -> Row {
+    let t = track_of(w);
+    let (x, y) = (float_at(words, 0), float_at(words, 1));
     match call {
-        37 => value_row(t.value_at(Seconds(secs))),
-        38 => value_row(t.value()),
-        41 => seconds_row(t.active_time()),
-        42 => seconds_row(t.duration()),
-        43 => seconds_row(t.playback_duration()),
-        44 => progress_row(t.progress()),
-        _ => completion_row(t.is_complete()),
+        TrackCall::Push => changed(w, t.push(x, y)),
+        TrackCall::PushEased => push_eased(w, words),
+        TrackCall::Looping => looping(w, words),
+        TrackCall::ValueAt => value_row(t.value_at(Seconds(x))),
+        TrackCall::Value => value_row(t.value()),
+        TrackCall::ValuesAt => values_at(t, words),
+        TrackCall::Update => updated(w, t.update(x)),
+        TrackCall::ActiveTime => seconds_row(t.active_time()),
+        TrackCall::Duration => seconds_row(t.duration()),
+        TrackCall::PlaybackDuration => seconds_row(t.playback_duration()),
+        TrackCall::Progress => progress_row(t.progress()),
+        TrackCall::IsComplete => completion_row(t.is_complete()),
+        TrackCall::Reset => changed(w, t.reset()),
+        TrackCall::SeekTo => changed(w, t.seek_to(Progress(x))),
     }
 }
 
-fn change(call: u32, t: Track, x: f32, y: f32) -> Changed {
-    match call {
-        34 => t.push(x, y),
-        46 => t.reset(),
-        _ => t.seek_to(Progress(x)),
-    }
+pub fn new(came: LaxTrack) -> Row {
+    put_track(nothing(), came, Track::new())
 }
 
-fn known(call: u32, w: LaxTrack, words: [u32; 1024]) -> Row {
-    let x = float_at(words, 0);
-    match call {
-        34 | 46 | 47 => changed(w, change(call, track_of(w), x, float_at(words, 1))),
-        35 => push_eased(w, words),
-        36 => looping(w, words),
-        39 => values_at(track_of(w), words),
-        40 => updated(w, track_of(w).update(x)),
-        _ => read(call, track_of(w), x),
-    }
-}
-
-pub fn answer(call: u32, w: LaxTrack, words: [u32; 1024]) -> Row {
-    if call == 33 {
-        return put_track(nothing(), w, Track::new());
-    }
+pub fn answer(call: TrackCall, w: LaxTrack, words: [u32; 1024]) -> Row {
     if is_known(w) {
         return known(call, w, words);
     }

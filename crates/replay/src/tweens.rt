@@ -1,4 +1,5 @@
 // The calls of a tween.
+use crate::call::TweenCall;
 use rows::{
     Row, accepted, count_word, float_at, floats_at, kept, length_at, mark_words, marks, nothing,
     progress_row, put, put_float, put_floats, put_tween, put_words, refused, seconds_row,
@@ -80,39 +81,29 @@ fn run(t: Tween, words: [u32; 1024]) -> Row {
     put_words(p, folds, folds_length)
 }
 
-fn read(call: u32, t: Tween) -> Row {
+fn known(call: TweenCall, t: Tween, words: [u32; 1024]) -> Row {
+    let x = float_at(words, 0);
     match call {
-        18 => value_row(t.value()),
-        19 => progress_row(t.progress()),
-        20 => value_row(t.eased_progress()),
-        21 => snapped(t.snapshot()),
-        _ => seconds_row(t.playback_duration()),
+        TweenCall::Value => value_row(t.value()),
+        TweenCall::Progress => progress_row(t.progress()),
+        TweenCall::EasedProgress => value_row(t.eased_progress()),
+        TweenCall::Snapshot => snapped(t.snapshot()),
+        TweenCall::PlaybackDuration => seconds_row(t.playback_duration()),
+        TweenCall::Reset => changed(tween_row(t), t.reset()),
+        TweenCall::Seek => changed(tween_row(t), t.seek(Progress(x))),
+        TweenCall::Reverse => changed(tween_row(t), t.reverse()),
+        TweenCall::Pause => changed(tween_row(t), t.pause()),
+        TweenCall::Resume => changed(tween_row(t), t.resume()),
+        TweenCall::Update => updated(tween_row(t), t.update(x)),
+        TweenCall::Run => run(t, words),
     }
 }
 
-fn change(call: u32, t: Tween, x: f32) -> Changed {
-    match call {
-        23 => t.reset(),
-        24 => t.seek(Progress(x)),
-        25 => t.reverse(),
-        26 => t.pause(),
-        _ => t.resume(),
-    }
+pub fn new(words: [u32; 1024]) -> Row {
+    tween_row(Tween::new(float_at(words, 0), float_at(words, 1)))
 }
 
-fn known(call: u32, t: Tween, words: [u32; 1024]) -> Row {
-    match call {
-        18 | 19 | 20 | 21 | 22 => read(call, t),
-        28 => updated(tween_row(t), t.update(float_at(words, 0))),
-        29 => run(t, words),
-        _ => changed(tween_row(t), change(call, t, float_at(words, 0))),
-    }
-}
-
-pub fn answer(call: u32, w: LaxTween, words: [u32; 1024]) -> Row {
-    if call == 17 {
-        return tween_row(Tween::new(float_at(words, 0), float_at(words, 1)));
-    }
+pub fn answer(call: TweenCall, w: LaxTween, words: [u32; 1024]) -> Row {
     match tween_of(w) {
         TweenRead::Known(t) => known(call, t, words),
         TweenRead::Unknown => unknown(),

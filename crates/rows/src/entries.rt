@@ -64,23 +64,10 @@ pub fn put_float(p: Row, x: f32) -> Row
 pub fn is_rest(words: &[u32], from: usize, out: &[u32], n: usize) -> bool
     ensures { Tells result (Rest words.now from out.now n) }
 {
-    if words.len() < from {
-        return false;
+    match (words.get(from..), out.get(..n)) {
+        (Some(rest), Some(first)) => rest == first,
+        _ => false,
     }
-    if words.len() - from != n {
-        return false;
-    }
-    if out.len() < n {
-        return false;
-    }
-    let mut i: usize = 0;
-    while i < n {
-        if words[from + i] != out[i] {
-            return false;
-        }
-        i += 1;
-    }
-    true
 }
 
 // Whether the first count words, from a place on, are the answer.
@@ -90,14 +77,11 @@ pub fn is_answer(words: [u32; 1024], count: usize, from: usize, answer: Row) -> 
     if 1024 < count {
         return false;
     }
-    let out = answer.list;
-    is_rest(&words[..count], from, &out, answer.count)
+    is_rest(&words[..count], from, &answer.list, answer.count)
 }
 
 pub fn is_same(p: Row, q: Row) -> bool
     ensures { Tells result (p.list ≡ q.list) }
 {
-    let left = p.list;
-    let right = q.list;
-    is_rest(&left, 0, &right, 1024)
+    p.list == q.list
 }

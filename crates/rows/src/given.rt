@@ -67,10 +67,8 @@ fn frames_at(words: [u32; 1024], from: usize, count: usize) -> [LaxKeyframe; 64]
     ensures { result ≡ frames_at words from count }
 {
     let mut frames = [frame_at([0u32; 1024], 0); 64];
-    let mut i: usize = 0;
-    while i < count {
+    for i in 0..count {
         frames[i] = frame_at(words, from + 8 * i);
-        i += 1;
     }
     frames
 }

@@ -66,10 +66,8 @@ fn put_frames(before: Row, frames: [LaxKeyframe; 64], count: usize) -> Row
     ensures { result ≡ put_all before (frames_list (take count frames)) }
 {
     let mut p = before;
-    let mut i: usize = 0;
-    while i < count {
-        p = put_frame(p, frames[i]);
-        i += 1;
+    for k in &frames[..count] {
+        p = put_frame(p, *k);
     }
     p
 }

@@ -15,4 +15,4 @@ pub use answers::{
 pub use entries::{Row, float_at, is_answer, nothing, put, put_float, word};
 pub use given::{easing_at, loop_at, track_in, tween_in};
 pub use handed::{put_easing, put_track, put_tween, tween_row};
-pub use lists::{count_word, floats_at, length_at, mark_words, marks, put_floats, put_words};
+pub use lists::{Word, count_word, floats_at, length_at, mark_words, marks, put_list};

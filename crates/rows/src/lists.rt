@@ -1,9 +1,9 @@
 // Lists that a call is lent: at most 128 places each.
-ghost use Rattle.std.specs.Prelude.{◌≡◌, ◌≤◌, ◌<◌, map, length, take};
+ghost use Rattle.std.specs.Prelude.{◌≡◌, ℕ, ◌≤◌, ◌<◌, map, length};
 ghost use Rattle.rows.specs.Words.{word_of, put_all};
 ghost use Rattle.rows.specs.Lent.{length_at, mark_words, mark_floats, floats_at, count_word};
 
-use crate::entries::{Row, float_at, put, put_float, word};
+use crate::entries::{Row, float_at, float_word, put, word};
 
 // What stands in a lent output before a call: 1e30, which no call writes.
 const MARK: u32 = 0x7149_f2ca;
@@ -12,8 +12,7 @@ const MARK: u32 = 0x7149_f2ca;
 pub fn length_at(words: [u32; 1024], at: usize) -> usize
     ensures { (result ≤ 128) × (result ≡ length_at words at) }
 {
-    let n = word(words, at) as usize;
-    if n < 128 { n } else { 128 }
+    (word(words, at) as usize).min(128)
 }
 
 pub fn marks() -> [f32; 128]
@@ -33,37 +32,42 @@ pub fn floats_at(words: [u32; 1024], from: usize) -> [f32; 128]
     ensures { (length result ≡ 128) × (result ≡ floats_at words from) }
 {
     let mut list = [0.0f32; 128];
-    let mut i: usize = 0;
-    while i < 128 {
+    for i in 0..128 {
         list[i] = float_at(words, from + i);
-        i += 1;
     }
     list
 }
 
-// The first floats of a list.
-pub fn put_floats(before: Row, list: [f32; 128], count: usize) -> Row
-    requires { count ≤ 128 }
-    ensures { result ≡ put_all before (map word_of (take count list)) }
-{
-    let mut p = before;
-    let mut i: usize = 0;
-    while i < count {
-        p = put_float(p, list[i]);
-        i += 1;
-    }
-    p
+// What a list holds, as words.
+pub trait Word {
+    ghost word: { Self → ℕ };
+
+    fn word(self) -> u32
+        ensures { result ≡ word self };
 }
 
-pub fn put_words(before: Row, list: [u32; 128], count: usize) -> Row
-    requires { count ≤ 128 }
-    ensures { result ≡ put_all before (take count list) }
+impl Word for u32 {
+    ghost word = { λ w. w };
+
+    fn word(self) -> u32 {
+        self
+    }
+}
+
+impl Word for f32 {
+    ghost word = { word_of };
+
+    fn word(self) -> u32 {
+        float_word(self)
+    }
+}
+
+pub fn put_list<T: Word + Copy>(before: Row, list: &[T]) -> Row
+    ensures { result ≡ put_all before (map T.word list.now) }
 {
     let mut p = before;
-    let mut i: usize = 0;
-    while i < count {
-        p = put(p, list[i]);
-        i += 1;
+    for x in list {
+        p = put(p, x.word());
     }
     p
 }
@@ -71,9 +75,5 @@ pub fn put_words(before: Row, list: [u32; 128], count: usize) -> Row
 pub fn count_word(n: usize) -> u32
     ensures { result ≡ count_word n }
 {
-    if n < 0xffff_ffff {
-        n as u32
-    } else {
-        0xffff_ffff
-    }
+    n.min(0xffff_ffff) as u32
 }

@@ -1,13 +1,13 @@
 // The survey of a log, a part at a time.
-ghost use Rattle.std.specs.Prelude.{◌≡◌, ◌-◌};
-ghost use Rattle.steps.specs.Course.{outcome_number};
+ghost use Rattle.std.specs.Prelude.{◌≡◌};
 ghost use Rattle.reader.specs.Reading.{begin_of};
 ghost use Rattle.reader.specs.Records.{records_of};
 ghost use Rattle.survey.specs.Survey.{zero_counts, counted_of, survey_of};
 
-use crate::lists::{Lists, empty_lists, noted, seen_at};
+use crate::lists::{Lists, seen_at};
 use reader::hear::{Heard, hear};
 use reader::{Last, Replay, capped_add};
+use steps::Outcome;
 use tween::Tween;
 
 // How many records were read, repeats too; how many of them have some missing before them, repeat the one
@@ -20,29 +20,18 @@ pub struct Counts {
     pub many: u64,
 }
 
-// refused is the number of the refusal that stopped it, 0 for none.
+// outcome: whether a refusal stopped it, and which.
 #[derive(Clone, Copy)]
 pub struct Survey {
     pub reached: Replay,
     pub counts: Counts,
     pub lists: Lists,
-    pub refused: u32,
-}
-
-fn answer(reached: Replay, counts: Counts, lists: Lists, refused: u32) -> Survey
-    ensures { result ≡ record { reached = reached; counts = counts; lists = lists; refused = refused } }
-{
-    Survey {
-        reached,
-        counts,
-        lists,
-        refused,
-    }
+    pub outcome: Outcome,
 }
 
 // Nothing is read yet.
 pub fn begin(t: Tween) -> Survey
-    ensures { (result.reached ≡ begin_of t) × (result.counts ≡ zero_counts) × (result.refused ≡ 0) }
+    ensures { (result.reached ≡ begin_of t) × (result.counts ≡ zero_counts) × (result.outcome ≡ Outcome.Finished) }
 {
     let reached = Replay {
         tween: t,
@@ -56,17 +45,12 @@ pub fn begin(t: Tween) -> Survey
         repeats: 0,
         many: 0,
     };
-    answer(reached, counts, empty_lists(), 0)
-}
-
-// b - a, or 0 where that is below 0.
-fn rise(a: u64, b: u64) -> u64
-    ensures { result ≡ b - a }
-{
-    if b > a {
-        return b - a;
+    Survey {
+        reached,
+        counts,
+        lists: Lists::empty(),
+        outcome: Outcome::Finished,
     }
-    0
 }
 
 // The counts with one record more.
@@ -97,29 +81,36 @@ fn is_listed(gap: u16, made: u64, least: u64, counts: Counts) -> bool {
 pub fn survey_on(first: Survey, records: &[u8]) -> Survey
     ensures reached { result.reached ≡ (survey_of (records_of records.now) first.reached first.counts).replay }
     ensures counts { result.counts ≡ (survey_of (records_of records.now) first.reached first.counts).counts }
-    ensures refused { result.refused ≡ outcome_number (survey_of (records_of records.now) first.reached first.counts).outcome }
+    ensures outcome { result.outcome ≡ (survey_of (records_of records.now) first.reached first.counts).outcome }
 {
     let mut reached = first.reached;
     let mut counts = first.counts;
     let mut lists = first.lists;
-    let mut i: usize = 0;
-    while i < records.len() / 8 {
+    for i in 0..records.len() / 8 {
         let bytes = reader::record_at(records, i);
         match hear(reached, bytes) {
             Heard::Goes(gap, next) => {
-                let made = rise(reached.folds, next.folds);
+                let made = next.folds.saturating_sub(reached.folds);
                 if is_listed(gap, made, lists.least, counts) {
-                    let last = reached.last;
-                    let one = seen_at(counts.records, bytes, last, gap, made);
-                    let longer = noted(lists, counts, one);
-                    lists = longer;
+                    lists.note(seen_at(counts.records, bytes, reached.last, gap, made));
                 }
                 counts = counted(counts, gap, made);
                 reached = next;
-                i += 1;
             }
-            Heard::Stops(refusal) => return answer(reached, counts, lists, refusal.number()),
+            Heard::Stops(refusal) => {
+                return Survey {
+                    reached,
+                    counts,
+                    lists,
+                    outcome: Outcome::Refused(refusal),
+                };
+            }
         }
     }
-    answer(reached, counts, lists, 0)
+    Survey {
+        reached,
+        counts,
+        lists,
+        outcome: Outcome::Finished,
+    }
 }

@@ -1,10 +1,10 @@
 // A ramp of a pump, sampled to a table: the setpoint after each second, and the passes folded in it.
 #![tactic(auto)]
 
-mod print;
-
 use easing::Easing;
 use loop_mode::Loop;
+use std::io;
+use std::rt::HostRuntime;
 use tween::{Tween, TweenState};
 
 // From 10 to 20 in 4 seconds and back, twice.
@@ -25,15 +25,22 @@ fn ramp() -> Tween {
     }
 }
 
-fn main() {
+fn print_table(rt: &HostRuntime) -> io::Result<()> {
     let steps = [1.0f32; 16];
     let mut values = [0.0f32; 16];
     let mut folds = [0u32; 16];
     steps::run_steps(ramp(), &steps, &mut values, &mut folds);
-    print::line(b"   s  setpoint  folds\n");
-    let mut i: usize = 0;
-    while i < 16 {
-        print::row(i as u32 + 1, values[i], folds[i]);
-        i += 1;
+    println!(rt; "   s  setpoint  folds")?;
+    for (i, (value, folds)) in values.iter().zip(&folds).enumerate() {
+        // to the nearest hundredth
+        let hundredths = math::whole_part(*value * 100.0 + 0.5);
+        let (whole, part) = (hundredths / 100, hundredths % 100);
+        println!(rt; "{:>4}{whole:>7}.{part:02}{folds:>7}", i + 1)?;
     }
+    Ok(())
+}
+
+// Where standard output can't be written, the table ends.
+fn main(rt: HostRuntime) {
+    let _written = print_table(&rt);
 }

@@ -2,15 +2,20 @@
 #![tactic(auto)]
 
 mod answers;
-mod report;
 mod tracks;
 
-fn main() {
-    let k1 = tracks::k1();
-    let k2 = tracks::k2();
-    let k3 = tracks::k3();
-    report::line(b"K1", k1);
-    report::line(b"K2", k2);
-    report::line(b"K3", k3);
-    report::end(k1 as u8 + k2 as u8 + k3 as u8);
+use std::io;
+use std::rt::HostRuntime;
+
+fn print_examples(rt: &HostRuntime) -> io::Result<()> {
+    let (k1, k2, k3) = (tracks::k1(), tracks::k2(), tracks::k3());
+    for (name, holds) in [("K1", k1), ("K2", k2), ("K3", k3)] {
+        println!(rt; "{name} {}", if holds { "ok" } else { "differs" })?;
+    }
+    println!(rt; "end {}", u8::from(k1) + u8::from(k2) + u8::from(k3))
+}
+
+// Where standard output can't be written, the lines end.
+fn main(rt: HostRuntime) {
+    let _written = print_examples(&rt);
 }

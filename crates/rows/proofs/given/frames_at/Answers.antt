@@ -1,9 +1,8 @@
--- `frames_at` meets its contract. The invariant: the first i places hold their frames. The measure is the places that are left. Assumes nothing.
+-- `frames_at` meets its contract. The invariant: the first i places hold their frames. Assumes nothing.
 use Prim.Native.Nat.{◌+◌, ◌*◌}
 use mathlib.Core.Path.{◌≡◌, refl, ◌∙◌}
 use mathlib.Core.List.{[]}
 use native.Mathlib.Omega.{arith}
-use borrow.Author.Rules.{rules}
 use lib.ListN.{replicate, length-set}
 use Rattle.words.specs.Lent.{frame_at}
 use Rattle.rows.specs.Records.{frames_at}
@@ -16,13 +15,13 @@ no_words = refl
 
 pub loop-i-init : goal.loop-i-init
 unfolding frames_at
-loop-i-init c = (search rules, refl, fill_none _ _)
+loop-i-init c = (refl, fill_none _ _)
 
 pub loop-i-preserved : goal.loop-i-preserved
 unfolding frames_at
-loop-i-preserved c = (omega arith, simp length-set c.loop-i.invariant.1, rw (c.frame_at.ensures, c.loop-i.invariant.2) (fill_one (λ k. frame_at c.args.words (c.args.from + 8 * k)) _ c.loop-i.i (omega arith)))
+loop-i-preserved c = (simp length-set c.loop-i.invariant.0, rw (c.frame_at.ensures, c.loop-i.invariant.1) (fill_one (λ k. frame_at c.args.words (c.args.from + 8 * k)) _ c.loop-i.i (omega arith)))
 
 pub returns : goal.returns
 unfolding frames_at
 returns c = let e : c.loop-i.i ≡ c.args.count = omega arith in
-    c.loop-i.invariant.2 ∙ (rw (e, c.frame_at-frames.ensures, no_words) refl)
+    c.loop-i.invariant.1 ∙ (rw (e, c.frame_at-frames.ensures, no_words) refl)

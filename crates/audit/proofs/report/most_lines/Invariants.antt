@@ -1,9 +1,0 @@
--- `most_lines` stays within its list and ends: the measure is the places that are left.
-use Rattle.std.proofs.Common.{◌-◌, ◌≤◌}
-use Rattle.audit.proofs.report.most_lines.Given as goal
-
-abbrev pub invariant-loop-i : goal.invariant-loop-i
-invariant-loop-i l = l.i ≤ 5
-
-abbrev pub decreases-loop-i : goal.decreases-loop-i
-decreases-loop-i l = 5 - l.i

@@ -1,9 +1,0 @@
--- `at_ticks` ends: the measure is the ticks that are left.
-use Rattle.std.proofs.Common.{◌-◌, ◌≤◌}
-use Rattle.drawing.proofs.field.at_ticks.Given as goal
-
-abbrev pub invariant-loop-i : goal.invariant-loop-i
-invariant-loop-i l = l.i ≤ 20
-
-abbrev pub decreases-loop-i : goal.decreases-loop-i
-decreases-loop-i l = 20 - l.i
