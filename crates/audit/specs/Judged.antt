@@ -1,9 +1,8 @@
 -- What the numbers of a log show, and how its report ends.
-use Rattle.std.specs.Prelude.{ℕ, Bool, false, cond, ◌||◌, nat_lt, Option, None, Some}
-use Rattle.steps.specs.declared.run.Outcome.{Outcome}
-use Rattle.steps.specs.declared.run.Outcome.TheVariants as outcome
+use Rattle.std.specs.Prelude.{ℕ, Bool, false, cond, ◌||◌, nat_lt, Option, None, Some, Err, Ok, Result, ⊤}
 use Rattle.audit.specs.declared.ending.End.{End}
 use Rattle.audit.specs.declared.ending.End.TheVariants.{Whole, Lacking, Refused, Unreadable}
+use Rattle.refusal.specs.declared.Refusal.{Refusal}
 
 -- "A log from its beginning has the number 0 there": the first record has another. A log of no records has
 -- no first number
@@ -23,12 +22,12 @@ abbrev pub loss_of : Option ℕ → Option ℕ → Option ℕ → Option ℕ
 loss_of first gap repeat = cond (late_of first) (Some 0) (earlier_of gap repeat)
 
 -- unless the replay was refused
-abbrev pub ended_of : Outcome → End → End
-ended_of outcome.Finished end = end
-ended_of (outcome.Refused refusal) end = Refused refusal
+abbrev pub ended_of : Result ⊤ Refusal → End → End
+ended_of (Ok tt) end = end
+ended_of (Err refusal) end = Refused refusal
 
 -- unreadable before refused, refused before what is missing
-abbrev pub end_of : Bool → Outcome → ℕ → ℕ → Option ℕ → End
+abbrev pub end_of : Bool → Result ⊤ Refusal → ℕ → ℕ → Option ℕ → End
 end_of failed outcome gaps repeats first =
     cond failed Unreadable
     (ended_of outcome (cond (nat_lt 0 gaps || nat_lt 0 repeats || late_of first) Lacking Whole))

@@ -3,7 +3,7 @@ ghost use Rattle.std.specs.Prelude.{◌≡◌};
 ghost use Rattle.audit.specs.Judged.{late_of, earlier_of, loss_of, end_of};
 
 use crate::ending::End;
-use steps::Outcome;
+use refusal::Refusal;
 
 // Whether the first record, by its number, is not the first of its log.
 pub fn begins_late(first: Option<u16>) -> bool
@@ -36,13 +36,19 @@ pub fn loss_from(first: Option<u16>, gap: Option<u64>, repeat: Option<u64>) -> O
 }
 
 // failed: a read failed.
-pub fn end_of(failed: bool, outcome: Outcome, gaps: u64, repeats: u64, first: Option<u16>) -> End
+pub fn end_of(
+    failed: bool,
+    outcome: Result<(), Refusal>,
+    gaps: u64,
+    repeats: u64,
+    first: Option<u16>,
+) -> End
     ensures { result ≡ end_of failed outcome gaps repeats first }
 {
     if failed {
         return End::Unreadable;
     }
-    if let Outcome::Refused(refusal) = outcome {
+    if let Err(refusal) = outcome {
         return End::Refused(refusal);
     }
     if (gaps > 0) | (repeats > 0) | begins_late(first) {

@@ -23,7 +23,7 @@ use refusal::Refusal;
 use std::fs::File;
 use std::io;
 use std::rt::HostRuntime;
-use tools::{Head, RampRead, STDERR_FILENO, STDOUT_FILENO, end_refused, end_unreadable};
+use tools::{HeadError, STDERR_FILENO, STDOUT_FILENO, end_refused, end_unreadable};
 use tween::Tween;
 
 // Whether the words are there to work on.
@@ -51,11 +51,11 @@ fn is_called(rt: &HostRuntime) -> bool {
 }
 
 // A refusal before any record is replayed.
-fn refused(rt: &HostRuntime, number: u32) -> io::Result<()> {
+fn refused(rt: &HostRuntime, refusal: Refusal) -> io::Result<()> {
     print!(rt; "refused ")?;
-    tools::say_refusal(STDOUT_FILENO, number);
+    tools::say_refusal(STDOUT_FILENO, refusal);
     println!(rt)?;
-    end_refused(number);
+    end_refused(refusal);
     Ok(())
 }
 
@@ -63,14 +63,14 @@ fn refused(rt: &HostRuntime, number: u32) -> io::Result<()> {
 fn audit(rt: &HostRuntime, file: &mut File, t: Tween) -> io::Result<()> {
     let length = tools::length_of(file);
     match tools::read_head(rt, file, 2, length) {
-        Head::Whole => report::all(rt, &walk::all(rt, file, t, length)),
-        Head::Refused(number) => refused(rt, number),
-        Head::Empty => {
+        Ok(()) => report::all(rt, &walk::all(rt, file, t, length)),
+        Err(HeadError::Refused(refusal)) => refused(rt, refusal),
+        Err(HeadError::Empty) => {
             tools::say_argument(rt, STDERR_FILENO, 2);
             tools::say(STDERR_FILENO, b": the log is empty\n");
-            refused(rt, Refusal::WrongMark.number())
+            refused(rt, Refusal::WrongMark)
         }
-        Head::Unreadable => {
+        Err(HeadError::Unreadable) => {
             end_unreadable();
             Ok(())
         }
@@ -82,7 +82,7 @@ fn main(rt: HostRuntime) {
     if !is_called(&rt) {
         return;
     }
-    let RampRead::Ramp(t) = tools::read_ramp(&rt, 1) else {
+    let Some(t) = tools::read_ramp(&rt, 1) else {
         end_unreadable();
         return;
     };
@@ -94,6 +94,6 @@ fn main(rt: HostRuntime) {
     let _written = if tween::within(t) {
         audit(&rt, &mut file, t)
     } else {
-        refused(&rt, Refusal::RecordBreaksLimit.number())
+        refused(&rt, Refusal::RecordBreaksLimit)
     };
 }

@@ -5,11 +5,10 @@ use crate::judged::end_of;
 use crate::listed::{gap_line, list_lines, repeat_line};
 use crate::put::float_line;
 use crate::walk::Walk;
-use easing::Eased;
-use reader::Last;
+use bezier::Found;
+use refusal::Refusal;
 use std::io;
 use std::rt::HostRuntime;
-use steps::Outcome;
 use survey::{Seen, Survey};
 use tools::STDOUT_FILENO;
 use tween::Tween;
@@ -27,7 +26,7 @@ fn most_lines(rt: &HostRuntime, most: &[Option<Seen>; 5]) -> io::Result<()> {
 fn records_lines(rt: &HostRuntime, w: &Walk) -> io::Result<()> {
     println!(rt; "records {}", w.survey.counts.records)?;
     match (w.first, w.survey.reached.last) {
-        (Some(first), Last::Number(last)) => println!(rt; "numbers {first} to {last}"),
+        (Some(first), Some(last)) => println!(rt; "numbers {first} to {last}"),
         _ => Ok(()),
     }
 }
@@ -57,26 +56,26 @@ fn lists_lines(rt: &HostRuntime, s: &Survey) -> io::Result<()> {
 
 fn stopped_line(rt: &HostRuntime, s: &Survey) -> io::Result<()> {
     match s.outcome {
-        Outcome::Refused(refusal) => {
+        Err(refusal) => {
             print!(rt; "stopped at record {}: ", s.counts.records)?;
-            tools::say_refusal(STDOUT_FILENO, refusal.number());
+            tools::say_refusal(STDOUT_FILENO, refusal);
             println!(rt)
         }
-        Outcome::Finished => Ok(()),
+        Ok(()) => Ok(()),
     }
 }
 
-fn value_line(rt: &HostRuntime, found: Eased) -> io::Result<()> {
+fn value_line(rt: &HostRuntime, found: Result<Found, Refusal>) -> io::Result<()> {
     match found {
-        Eased::Value(f) => float_line(rt, "tween value ", f.value),
-        Eased::Refused(refusal) => println!(rt; "tween value refused {}", refusal.number()),
+        Ok(f) => float_line(rt, "tween value ", f.value),
+        Err(refusal) => println!(rt; "tween value refused {}", refusal.number()),
     }
 }
 
 fn tween_lines(rt: &HostRuntime, t: Tween) -> io::Result<()> {
     let w = words::tween_words(t);
     print!(rt; "tween state ")?;
-    tools::say_name(STDOUT_FILENO, names::state(w.state));
+    tools::say_name(STDOUT_FILENO, names::state(t.state));
     println!(rt)?;
     float_line(rt, "tween elapsed ", w.elapsed)?;
     float_line(rt, "tween delay_elapsed ", w.delay_elapsed)?;
@@ -107,7 +106,7 @@ fn end_line(rt: &HostRuntime, w: &Walk) -> io::Result<()> {
             )
         }
         End::Refused(refusal) => {
-            tools::end_refused(refusal.number());
+            tools::end_refused(refusal);
             Ok(())
         }
         End::Unreadable => {

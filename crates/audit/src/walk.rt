@@ -2,9 +2,8 @@
 use refusal::Refusal;
 use std::fs::File;
 use std::rt::HostRuntime;
-use steps::Outcome;
 use survey::{Survey, survey_on};
-use tools::{Length, STDERR_FILENO};
+use tools::STDERR_FILENO;
 use tween::Tween;
 
 // first is the number of the first record. failed: a read failed.
@@ -34,7 +33,7 @@ impl Walk {
     }
 
     pub fn is_refused(&self) -> bool {
-        matches!(self.survey.outcome, Outcome::Refused(_))
+        matches!(self.survey.outcome, Err(_))
     }
 
     // Before the end of the log.
@@ -50,7 +49,7 @@ impl Walk {
         }
         // the log was read to its end, and has bytes left over behind the last record
         if !self.is_stopped() & (part.len() % 8 != 0) {
-            self.survey.outcome = Outcome::Refused(Refusal::WrongLength);
+            self.survey.outcome = Err(Refusal::WrongLength);
         }
     }
 
@@ -65,11 +64,8 @@ impl Walk {
 }
 
 // Whether a log has more than 32 MiB, or may have.
-fn is_long(length: Length) -> bool {
-    match length {
-        Length::Bytes(n) => n > 33554432,
-        Length::Unknown => true,
-    }
+fn is_long(length: Option<u64>) -> bool {
+    length.is_none_or(|n| n > 33554432)
 }
 
 // Each 16 MiB.
@@ -83,7 +79,7 @@ fn say_progress(bytes: u64) {
 }
 
 // The whole log, behind its head.
-pub fn all(rt: &HostRuntime, file: &mut File, t: Tween, length: Length) -> Walk {
+pub fn all(rt: &HostRuntime, file: &mut File, t: Tween, length: Option<u64>) -> Walk {
     let long = is_long(length);
     let mut w = Walk::begin(t);
     for _ in 0..u64::MAX {

@@ -1,9 +1,8 @@
 // A replay on its way, with what the picture needs of it.
-use easing::Eased;
 use reader::hear::{Heard, hear};
-use reader::{Last, Replay, step_in};
+use reader::{Replay, step_in};
 use refusal::Refusal;
-use tween::{Tween, Updated};
+use tween::Tween;
 
 // What the last record was: the one before again, or one of its own, with what is missing before it and the
 // folds that it made.
@@ -32,7 +31,7 @@ pub struct Course {
 // The value of a tween, where it has a finite one.
 fn value_in(t: Tween) -> Option<f32> {
     match t.value() {
-        Eased::Value(found) if math::is_finite(found.value) => Some(found.value),
+        Ok(found) if math::is_finite(found.value) => Some(found.value),
         _ => None,
     }
 }
@@ -43,7 +42,7 @@ impl Course {
         let value = value_in(t).unwrap_or(0.0);
         let replay = Replay {
             tween: t,
-            last: Last::Unread,
+            last: None,
             missing: 0,
             folds: 0,
         };
@@ -88,29 +87,29 @@ impl Course {
     // With the next record.
     pub fn hear(&mut self, bytes: [u8; 8]) {
         match hear(self.replay, bytes) {
-            Heard::Goes(65535, _) => self.repeat(),
-            Heard::Goes(gap, to) => self.go(to, u64::from(gap), f64::from(step_in(bytes))),
-            Heard::Stops(refusal) => self.refused = Some(refusal),
+            Ok(heard) if heard.gap == 65535 => self.repeat(),
+            Ok(heard) => self.go(
+                heard.reached,
+                u64::from(heard.gap),
+                f64::from(step_in(bytes)),
+            ),
+            Err(refusal) => self.refused = Some(refusal),
         }
     }
 
     // With an update that no record asks for.
     pub fn step(&mut self, step: f32) {
         match self.replay.tween.update(step) {
-            Updated::Ran {
-                tween,
-                folds,
-                running: _,
-            } => {
+            Ok(updated) => {
                 let to = Replay {
-                    tween,
-                    last: Last::Unread,
+                    tween: updated.tween,
+                    last: None,
                     missing: 0,
-                    folds: self.replay.folds.wrapping_add(u64::from(folds)),
+                    folds: self.replay.folds.wrapping_add(u64::from(updated.folds)),
                 };
                 self.go(to, 0, f64::from(step));
             }
-            Updated::Refused { tween: _, refusal } => self.refused = Some(refusal),
+            Err(rejected) => self.refused = Some(rejected.refusal),
         }
     }
 }

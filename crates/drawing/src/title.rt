@@ -31,8 +31,8 @@ pub fn title(rt: &HostRuntime, t: Tween) -> io::Result<()> {
     print!(rt; " in ")?;
     say_times(rt, &w)?;
     print!(rt; ", ")?;
-    tools::say_mode(STDOUT_FILENO, w.looping);
+    tools::say_mode(STDOUT_FILENO, t.looping);
     print!(rt; ", ")?;
-    tools::say_easing(STDOUT_FILENO, w.easing);
+    tools::say_easing(STDOUT_FILENO, t.easing);
     println!(rt; "</text>")
 }

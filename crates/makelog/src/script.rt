@@ -1,6 +1,6 @@
 // A whole script, before anything is written.
 use crate::order::{Order, read_order};
-use event_log::{Event, Logged};
+use event_log::Event;
 use lines::{Expected, Line, Lines, Mistake};
 use refusal::Refusal;
 
@@ -33,11 +33,9 @@ pub struct ScriptError {
 // That the writer takes an event.
 fn try_event(event: Event) -> Result<(), Refusal> {
     let mut log = [0u8; 13];
-    event_log::write_head(&mut log);
-    match event_log::write_record(&mut log, 5, event) {
-        Logged::Written(_) => Ok(()),
-        Logged::Refused(refusal) => Err(refusal),
-    }
+    event_log::write_head(&mut log)?;
+    event_log::write_record(&mut log, 5, event)?;
+    Ok(())
 }
 
 // Whether a record stands just before the next line, where behind says whether one does before this line.

@@ -1,6 +1,6 @@
 // The log, written out a buffer at a time.
 use crate::order::{Order, read_order};
-use event_log::{Event, Logged};
+use event_log::Event;
 use lines::{Lines, Mistake};
 use std::fs::File;
 use std::io::{Error, ErrorKind, Write};
@@ -76,11 +76,11 @@ impl<'a> Sink<'a> {
     fn append(&mut self, event: Event) -> Result<(), WriteError> {
         let written = self.written;
         match event_log::write_record(self.buffer, written, event) {
-            Logged::Written(n) => {
+            Ok(n) => {
                 self.written = n;
                 Ok(())
             }
-            Logged::Refused(_) => Err(WriteError::Failed),
+            Err(_) => Err(WriteError::Failed),
         }
     }
 

@@ -3,21 +3,12 @@ use drawing::columns::{COLUMNS, Table};
 use drawing::course::Course;
 use drawing::frame::frame_of;
 use drawing::picture::{Shown, picture_of_ramp};
-use loop_mode::PassLimit;
 use std::rt::HostRuntime;
 use tween::Tween;
 
-// How many passes there are, where they have an end.
-fn passes_of(t: Tween) -> Option<u32> {
-    match t.looping.pass_limit() {
-        PassLimit::Passes(n) => Some(n),
-        PassLimit::Endless => None,
-    }
-}
-
 // All passes of a few, the first three of others.
 fn shown_of(t: Tween) -> Shown {
-    let of = passes_of(t);
+    let of = t.looping.pass_limit();
     let passes = match of {
         Some(all) if all <= 8 => all,
         _ => 3,

@@ -9,7 +9,7 @@ use refusal::Refusal;
 use std::fs::File;
 use std::io::{Seek, SeekFrom};
 use std::rt::HostRuntime;
-use tools::{Head, Length, STDERR_FILENO, end_unreadable};
+use tools::{HeadError, STDERR_FILENO, end_unreadable};
 use tween::Tween;
 
 // Over the records of a part, until one is refused.
@@ -82,22 +82,22 @@ fn draw_parts(rt: &HostRuntime, file: &mut File, t: Tween, parts: u64) {
 
 // A file of so many bytes.
 fn draw_bytes(rt: &HostRuntime, file: &mut File, t: Tween, length: u64) {
-    match tools::read_head(rt, file, 2, Length::Bytes(length)) {
-        Head::Whole => match length.checked_sub(5) {
+    match tools::read_head(rt, file, 2, Some(length)) {
+        Ok(()) => match length.checked_sub(5) {
             Some(bytes) => draw_parts(rt, file, t, bytes / 65536 + 1),
             None => unread(rt),
         },
-        Head::Refused(number) => refuse(rt, 2, number),
-        Head::Empty => refuse(rt, 2, Refusal::WrongMark.number()),
-        Head::Unreadable => end_unreadable(),
+        Err(HeadError::Refused(refusal)) => refuse(rt, 2, refusal),
+        Err(HeadError::Empty) => refuse(rt, 2, Refusal::WrongMark),
+        Err(HeadError::Unreadable) => end_unreadable(),
     }
 }
 
 // Draws the log on an open file.
 pub fn draw_log(rt: &HostRuntime, file: &mut File, t: Tween) {
     match tools::length_of(file) {
-        Length::Bytes(length) => draw_bytes(rt, file, t, length),
-        Length::Unknown => {
+        Some(length) => draw_bytes(rt, file, t, length),
+        None => {
             tools::say_argument(rt, STDERR_FILENO, 2);
             tools::say(
                 STDERR_FILENO,

@@ -9,7 +9,6 @@ mod log;
 mod refusing;
 
 use refusal::Refusal;
-use tools::RampRead;
 use tween::Tween;
 
 // Whether the words are there to work on.
@@ -52,12 +51,12 @@ fn main(rt: HostRuntime) {
     if !is_called(&rt) {
         return;
     }
-    let RampRead::Ramp(t) = tools::read_ramp(&rt, 1) else {
+    let Some(t) = tools::read_ramp(&rt, 1) else {
         tools::end_unreadable();
         return;
     };
     if !tween::within(t) {
-        refusing::refuse(&rt, 1, Refusal::RecordBreaksLimit.number());
+        refusing::refuse(&rt, 1, Refusal::RecordBreaksLimit);
         return;
     }
     draw(&rt, t);

@@ -1,4 +1,5 @@
 // Where there is no picture: a line on standard error that says why, and one on standard output.
+use refusal::Refusal;
 use std::rt::HostRuntime;
 use tools::STDERR_FILENO;
 
@@ -9,11 +10,11 @@ pub fn unread(rt: &HostRuntime) {
     tools::end_unreadable();
 }
 
-// A refusal, by its number, of the file that an argument names.
-pub fn refuse(rt: &HostRuntime, argument: usize, number: u32) {
+// A refusal of the file that an argument names.
+pub fn refuse(rt: &HostRuntime, argument: usize, refusal: Refusal) {
     tools::say_argument(rt, STDERR_FILENO, argument);
     tools::say(STDERR_FILENO, b": refused ");
-    tools::say_refusal(STDERR_FILENO, number);
+    tools::say_refusal(STDERR_FILENO, refusal);
     tools::say(STDERR_FILENO, b"\n");
-    tools::end_refused(number);
+    tools::end_refused(refusal);
 }

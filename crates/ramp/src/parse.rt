@@ -1,25 +1,21 @@
 // A whole ramp.
-ghost use Rattle.std.specs.Prelude.{◌≡◌, true};
+ghost use Rattle.std.specs.Prelude.{◌≡◌, true, Ok};
 ghost use Rattle.tween.specs.declared.record.Tween.{Tween};
-ghost use Rattle.tween.specs.declared.answers.Changed.TheVariants.{Done};
 ghost use Rattle.tween.specs.Limits.{within_of};
 ghost use Rattle.tween.specs.Calls.{reset_of};
 ghost use Rattle.ramp.specs.Ramps.{IsReset};
 
 use crate::settings::Settings;
 use lines::{Fault, Lines, Word};
-use tween::{Changed, Tween};
+use tween::Tween;
 
 // A ramp that breaks a limit is handed on as it is: every call refuses it.
 fn reset(tween: Tween) -> Tween
-    ensures { within_of result ≡ true → (t : Tween) × (reset_of t ≡ Done result) }
+    ensures { within_of result ≡ true → (t : Tween) × (reset_of t ≡ Ok result) }
 {
     match tween.reset() {
-        Changed::Done(u) => u,
-        Changed::Refused {
-            tween: same,
-            refusal: _,
-        } => same,
+        Ok(u) => u,
+        Err(rejected) => rejected.value,
     }
 }
 

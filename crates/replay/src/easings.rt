@@ -6,17 +6,17 @@ use rows::{
     word,
 };
 use units::Progress;
-use words::{EasingRead, LaxEasing, easing_of, easing_words};
+use words::{LaxEasing, easing_of, easing_words};
 
 fn eq(x: Easing, w: LaxEasing) -> Row {
     match easing_of(w) {
-        EasingRead::Known(y) => equality_row(x.eq(y)),
-        EasingRead::Unknown => unknown(),
+        Some(y) => equality_row(x.eq(y)),
+        None => unknown(),
     }
 }
 
 pub fn answer(call: EasingCall, words: [u32; 1024]) -> Row {
-    let EasingRead::Known(e) = easing_of(easing_at(words, 0)) else {
+    let Some(e) = easing_of(easing_at(words, 0)) else {
         return unknown();
     };
     match call {

@@ -1,27 +1,14 @@
 // The calls of a track.
 use crate::call::TrackCall;
-use keyframe::{Changed, Outcome, Stepped, Track, Updated};
+use keyframe::{Track, Updated};
+use refusal::{Refusal, Rejected};
 use rows::{
     Row, accepted, completion_row, count_word, easing_at, flag_row, float_at, floats_at, kept,
     length_at, loop_at, marks, nothing, progress_row, put, put_floats, put_track, refused,
     seconds_row, unknown, value_row,
 };
 use units::{Progress, Seconds};
-use words::{EasingRead, LaxTrack, LoopRead, easing_of, is_known, loop_of, track_of};
-
-fn outcome_row(outcome: Outcome) -> Row {
-    match outcome {
-        Outcome::Done => accepted(),
-        Outcome::Refused(refusal) => refused(refusal),
-    }
-}
-
-fn stepped_row(stepped: Stepped) -> Row {
-    match stepped {
-        Stepped::Ran { running } => flag_row(running),
-        Stepped::Refused(refusal) => refused(refusal),
-    }
-}
+use words::{LaxTrack, easing_of, is_known, loop_of, track_of};
 
 // The head's first word is the call's number.
 fn put_back(came: LaxTrack, head: Row, t: Track) -> Row {
@@ -35,32 +22,34 @@ fn put_back(came: LaxTrack, head: Row, t: Track) -> Row {
     )
 }
 
-fn changed(came: LaxTrack, a: Changed) -> Row {
-    let outcome = a.outcome;
-    let track = a.track;
-    put_back(came, outcome_row(outcome), track)
+fn changed(came: LaxTrack, a: Result<Track, Rejected<Track>>) -> Row {
+    match a {
+        Ok(track) => put_back(came, accepted(), track),
+        Err(rejected) => put_back(came, refused(rejected.refusal), rejected.value),
+    }
 }
 
-fn updated(came: LaxTrack, a: Updated) -> Row {
-    let stepped = a.stepped;
-    let track = a.track;
-    put_back(came, stepped_row(stepped), track)
+fn updated(came: LaxTrack, a: Result<Updated, Rejected<Track>>) -> Row {
+    match a {
+        Ok(u) => put_back(came, flag_row(u.running), u.track),
+        Err(rejected) => put_back(came, refused(rejected.refusal), rejected.value),
+    }
 }
 
 fn push_eased(w: LaxTrack, words: [u32; 1024]) -> Row {
     match easing_of(easing_at(words, 2)) {
-        EasingRead::Known(e) => changed(
+        Some(e) => changed(
             w,
             track_of(w).push_eased(float_at(words, 0), float_at(words, 1), e),
         ),
-        EasingRead::Unknown => unknown(),
+        None => unknown(),
     }
 }
 
 fn looping(w: LaxTrack, words: [u32; 1024]) -> Row {
     match loop_of(loop_at(words, 0)) {
-        LoopRead::Known(mode) => changed(w, track_of(w).looping(mode)),
-        LoopRead::Unknown => unknown(),
+        Some(mode) => changed(w, track_of(w).looping(mode)),
+        None => unknown(),
     }
 }
 

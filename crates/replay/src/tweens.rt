@@ -1,14 +1,15 @@
 // The calls of a tween.
 use crate::call::TweenCall;
+use refusal::{Refusal, Rejected};
 use rows::{
     Row, accepted, count_word, float_at, floats_at, kept, length_at, mark_words, marks, nothing,
     progress_row, put, put_float, put_floats, put_tween, put_words, refused, seconds_row,
     tween_row, unknown, value_row,
 };
-use steps::{Outcome, Run, run_steps};
-use tween::{Changed, Snapped, Tween, TweenSnapshot, Updated};
+use steps::{Run, run_steps};
+use tween::{Tween, TweenSnapshot, Updated};
 use units::Progress;
-use words::{LaxTween, TweenRead, flag_word, state_word, tween_of};
+use words::{LaxTween, flag_word, state_word, tween_of};
 
 fn put_snapshot(now: TweenSnapshot) -> Row {
     let state = now.state;
@@ -19,36 +20,38 @@ fn put_snapshot(now: TweenSnapshot) -> Row {
     put(p, flag_word(now.ping_pong_reverse))
 }
 
-fn snapped(a: Snapped) -> Row {
+fn snapped(a: Result<TweenSnapshot, Refusal>) -> Row {
     match a {
-        Snapped::Snapshot(now) => put_snapshot(now),
-        Snapped::Refused(refusal) => refused(refusal),
+        Ok(now) => put_snapshot(now),
+        Err(refusal) => refused(refusal),
     }
 }
 
 // came is the row of the tween that the call was given.
-fn changed(came: Row, a: Changed) -> Row {
+fn changed(came: Row, a: Result<Tween, Rejected<Tween>>) -> Row {
     match a {
-        Changed::Done(tween) => put_tween(accepted(), tween),
-        Changed::Refused { tween, refusal } => kept(refused(refusal), tween_row(tween), came),
+        Ok(tween) => put_tween(accepted(), tween),
+        Err(rejected) => kept(refused(rejected.refusal), tween_row(rejected.value), came),
     }
 }
 
-fn updated(came: Row, a: Updated) -> Row {
+fn updated(came: Row, a: Result<Updated, Rejected<Tween>>) -> Row {
     match a {
-        Updated::Ran {
-            tween,
-            folds,
-            running,
-        } => put_tween(put(put(accepted(), folds), flag_word(running)), tween),
-        Updated::Refused { tween, refusal } => kept(refused(refusal), tween_row(tween), came),
+        Ok(
+            Updated {
+                tween,
+                folds,
+                running,
+            },
+        ) => put_tween(put(put(accepted(), folds), flag_word(running)), tween),
+        Err(rejected) => kept(refused(rejected.refusal), tween_row(rejected.value), came),
     }
 }
 
-fn outcome_number(outcome: Outcome) -> u32 {
+fn outcome_number(outcome: Result<(), Refusal>) -> u32 {
     match outcome {
-        Outcome::Finished => 0,
-        Outcome::Refused(refusal) => refusal.number(),
+        Ok(()) => 0,
+        Err(refusal) => refusal.number(),
     }
 }
 
@@ -105,7 +108,7 @@ pub fn new(words: [u32; 1024]) -> Row {
 
 pub fn answer(call: TweenCall, w: LaxTween, words: [u32; 1024]) -> Row {
     match tween_of(w) {
-        TweenRead::Known(t) => known(call, t, words),
-        TweenRead::Unknown => unknown(),
+        Some(t) => known(call, t, words),
+        None => unknown(),
     }
 }

@@ -4,10 +4,9 @@ ghost use Rattle.rows.specs.Words.{put_of, row_of};
 ghost use Rattle.rows.specs.Answers.{unknown_words, refused_words, accepted_words, flag_words, float_words, value_words, seconds_words, progress_words, equality_words, completion_words};
 
 use crate::entries::{Row, float_word, is_same, nothing, put};
-use easing::{Eased, Equality};
-use keyframe::Completion;
+use bezier::Found;
 use refusal::Refusal;
-use units::{InProgress, InSeconds};
+use units::{Progress, Seconds};
 use words::{UNKNOWN_WORD, flag_word};
 
 pub fn unknown() -> Row
@@ -47,47 +46,47 @@ fn float_row(x: f32) -> Row
     put(accepted(), float_word(x))
 }
 
-pub fn value_row(a: Eased) -> Row
+pub fn value_row(a: Result<Found, Refusal>) -> Row
     ensures { result ≡ row_of (value_words a) }
 {
     match a {
-        Eased::Value(found) => float_row(found.value),
-        Eased::Refused(refusal) => refused(refusal),
+        Ok(found) => float_row(found.value),
+        Err(refusal) => refused(refusal),
     }
 }
 
-pub fn seconds_row(a: InSeconds) -> Row
+pub fn seconds_row(a: Result<Seconds, Refusal>) -> Row
     ensures { result ≡ row_of (seconds_words a) }
 {
     match a {
-        InSeconds::Seconds(s) => float_row(s.0),
-        InSeconds::Refused(refusal) => refused(refusal),
+        Ok(s) => float_row(s.0),
+        Err(refusal) => refused(refusal),
     }
 }
 
-pub fn progress_row(a: InProgress) -> Row
+pub fn progress_row(a: Result<Progress, Refusal>) -> Row
     ensures { result ≡ row_of (progress_words a) }
 {
     match a {
-        InProgress::Progress(p) => float_row(p.0),
-        InProgress::Refused(refusal) => refused(refusal),
+        Ok(p) => float_row(p.0),
+        Err(refusal) => refused(refusal),
     }
 }
 
-pub fn equality_row(a: Equality) -> Row
+pub fn equality_row(a: Result<bool, Refusal>) -> Row
     ensures { result ≡ row_of (equality_words a) }
 {
     match a {
-        Equality::Equal(b) => flag_row(b),
-        Equality::Refused(refusal) => refused(refusal),
+        Ok(b) => flag_row(b),
+        Err(refusal) => refused(refusal),
     }
 }
 
-pub fn completion_row(a: Completion) -> Row
+pub fn completion_row(a: Result<bool, Refusal>) -> Row
     ensures { result ≡ row_of (completion_words a) }
 {
     match a {
-        Completion::Complete(b) => flag_row(b),
-        Completion::Refused(refusal) => refused(refusal),
+        Ok(b) => flag_row(b),
+        Err(refusal) => refused(refusal),
     }
 }

@@ -1,4 +1,5 @@
 -- How a survey stands after its first i records, and how it goes on and ends from there. Assumes nothing.
+use Rattle.std.specs.Prelude.{Err, Ok}
 use Prim.Native.Nat.{ℕ, ◌+◌, ◌-◌, ◌*◌, ◌/◌, ◌<◌, ◌≤◌}
 use mathlib.Core.Path.{◌≡◌, refl, ap, ◌∙◌}
 use mathlib.Core.List.{List}
@@ -6,14 +7,13 @@ use native.Mathlib.Omega.{arith}
 use lib.ListN.{length, take, drop, length-drop}
 use Rattle.math.specs.Lists.{split}
 use Rattle.refusal.specs.declared.Refusal.{Refusal}
-use Rattle.steps.specs.declared.run.Outcome.TheVariants.{Finished, Refused}
 use Rattle.reader.specs.declared.hear.Replay.{Replay}
-use Rattle.reader.specs.declared.hear.Heard.TheVariants.{Goes, Stops}
 use Rattle.reader.specs.Records.{records_of}
 use Rattle.reader.specs.Hearing.{heard_of}
 use Rattle.reader.proofs.Readings.{records-next}
 use Rattle.survey.specs.declared.survey.Counts.{Counts}
 use Rattle.survey.specs.Survey.{counted_of, survey_of}
+use Rattle.refusal.specs.Refusing.{done}
 
 pub record Reached (bytes : List ℕ) (s₀ : Replay) (k₀ : Counts) (s : Replay) (k : Counts) (i : ℕ) : Type 0 where
   pub course-is : survey_of (records_of bytes) s₀ k₀ ≡ survey_of (records_of (drop (i * 8) bytes)) s k
@@ -23,16 +23,16 @@ pub begins : (bytes : List ℕ) (s : Replay) (k : Counts) → Reached bytes s k 
 begins bytes s k = record { course-is = refl; few = omega arith }
 
 module _ (bytes : List ℕ) (s₀ : Replay) (k₀ : Counts) (s : Replay) (k : Counts) (i : ℕ) (r : Reached bytes s₀ k₀ s k i) where
-  pub goes_on : (g : ℕ) (u : Replay) → i < length bytes / 8 → heard_of s (take 8 (drop (i * 8) bytes)) ≡ Goes g u → Reached bytes s₀ k₀ u (counted_of k g (u.folds - s.folds)) (i + 1)
+  pub goes_on : (g : ℕ) (u : Replay) → i < length bytes / 8 → heard_of s (take 8 (drop (i * 8) bytes)) ≡ Ok (record { gap = g; reached = u }) → Reached bytes s₀ k₀ u (counted_of k g (u.folds - s.folds)) (i + 1)
   unfolding survey_of
   goes_on g u h e = record { course-is = r.course-is ∙ (rw (records-next bytes i h, e)); few = omega arith }
 
-  pub stops : (x : Refusal) → i < length bytes / 8 → heard_of s (take 8 (drop (i * 8) bytes)) ≡ Stops x
-      → survey_of (records_of bytes) s₀ k₀ ≡ record { replay = s; counts = k; outcome = Refused x }
+  pub stops : (x : Refusal) → i < length bytes / 8 → heard_of s (take 8 (drop (i * 8) bytes)) ≡ Err x
+      → survey_of (records_of bytes) s₀ k₀ ≡ record { replay = s; counts = k; outcome = Err x }
   unfolding survey_of
   stops x h e = r.course-is ∙ (rw (records-next bytes i h, e))
 
-  pub finishes : length bytes / 8 ≤ i → survey_of (records_of bytes) s₀ k₀ ≡ record { replay = s; counts = k; outcome = Finished }
+  pub finishes : length bytes / 8 ≤ i → survey_of (records_of bytes) s₀ k₀ ≡ record { replay = s; counts = k; outcome = done }
   unfolding survey_of split
   finishes h =
       let e : length (drop (i * 8) bytes) / 8 ≡ 0 = omega (arith, length-drop (i * 8) bytes) in

@@ -1,13 +1,12 @@
 -- What a survey of a log comes to: how far its replay has come, and what was counted on the way.
-use Rattle.std.specs.Prelude.{ℕ, ◌+◌, ◌-◌, ◌≤◌, Bool, not, ◌&&◌, cond, List, [], ◌∷◌, ◌≡◌, ltb, length}
-use Rattle.steps.specs.declared.run.Outcome.{Outcome}
-use Rattle.steps.specs.declared.run.Outcome.TheVariants.{Finished, Refused}
+use Rattle.std.specs.Prelude.{ℕ, ◌+◌, ◌-◌, ◌≤◌, Bool, not, ◌&&◌, cond, List, [], ◌∷◌, ◌≡◌, ltb, length, Err, Ok, Result, ⊤}
 use Rattle.reader.specs.declared.hear.Replay.{Replay}
 use Rattle.reader.specs.declared.hear.Heard.{Heard}
-use Rattle.reader.specs.declared.hear.Heard.TheVariants.{Goes, Stops}
 use Rattle.reader.specs.Hearing.{capped, is_repeat, heard_of}
 use Rattle.reader.specs.Reading.{reading_of}
 use Rattle.survey.specs.declared.survey.Counts.{Counts}
+use Rattle.refusal.specs.declared.Refusal.{Refusal}
+use Rattle.refusal.specs.Refusing.{done}
 
 abbrev pub zero_counts : Counts
 zero_counts = record { records = 0; gaps = 0; repeats = 0; many = 0 }
@@ -29,16 +28,16 @@ counted_of k gap made =
 pub record Course : Type 0 where
   pub replay : Replay
   pub counts : Counts
-  pub outcome : Outcome
+  pub outcome : Result ⊤ Refusal
 
 -- a record and the rest, or the first refusal. The folds of a record are what the sum grows by
-abbrev pub surveyed : Heard → Replay → Counts → (Replay → Counts → Course) → Course
-surveyed (Goes gap u) s k rest = rest u (counted_of k gap (u.folds - s.folds))
-surveyed (Stops r) s k rest = record { replay = s; counts = k; outcome = Refused r }
+abbrev pub surveyed : Result Heard Refusal → Replay → Counts → (Replay → Counts → Course) → Course
+surveyed (Ok o) s k rest = rest o.reached (counted_of k o.gap (o.reached.folds - s.folds))
+surveyed (Err r) s k rest = record { replay = s; counts = k; outcome = Err r }
 
 -- records one behind the other
 unfoldable pub survey_of : List (List ℕ) → Replay → Counts → Course
-survey_of [] s k = record { replay = s; counts = k; outcome = Finished }
+survey_of [] s k = record { replay = s; counts = k; outcome = done }
 survey_of (r ∷ rs) s k = surveyed (heard_of s r) s k (survey_of rs)
 
 -- a survey's replay is the reader's, so that all that is promised of a replay is promised of it

@@ -1,5 +1,4 @@
 // Lists that keep their first, and one that keeps the greatest.
-use reader::Last;
 
 // A record. number is its own, last the one before; what is missing before it; and, of an update, its step
 // in seconds and the folds that it made.
@@ -25,15 +24,15 @@ pub struct Lists {
     pub least: u64,
 }
 
-fn last_number(last: Last) -> u16 {
+fn last_number(last: Option<u16>) -> u16 {
     match last {
-        Last::Number(n) => n,
-        Last::Unread => 0,
+        Some(n) => n,
+        None => 0,
     }
 }
 
 // A record as it is seen at a place, behind the number `last`.
-pub fn seen_at(place: u64, bytes: [u8; 8], last: Last, gap: u16, folds: u64) -> Seen {
+pub fn seen_at(place: u64, bytes: [u8; 8], last: Option<u16>, gap: u16, folds: u64) -> Seen {
     Seen {
         place,
         gap,

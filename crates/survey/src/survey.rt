@@ -3,11 +3,12 @@ ghost use Rattle.std.specs.Prelude.{◌≡◌};
 ghost use Rattle.reader.specs.Reading.{begin_of};
 ghost use Rattle.reader.specs.Records.{records_of};
 ghost use Rattle.survey.specs.Survey.{zero_counts, counted_of, survey_of};
+ghost use Rattle.refusal.specs.Refusing.{done};
 
 use crate::lists::{Lists, seen_at};
 use reader::hear::{Heard, hear};
-use reader::{Last, Replay, capped_add};
-use steps::Outcome;
+use reader::{Replay, capped_add};
+use refusal::Refusal;
 use tween::Tween;
 
 // How many records were read, repeats too; how many of them have some missing before them, repeat the one
@@ -26,16 +27,16 @@ pub struct Survey {
     pub reached: Replay,
     pub counts: Counts,
     pub lists: Lists,
-    pub outcome: Outcome,
+    pub outcome: Result<(), Refusal>,
 }
 
 // Nothing is read yet.
 pub fn begin(t: Tween) -> Survey
-    ensures { (result.reached ≡ begin_of t) × (result.counts ≡ zero_counts) × (result.outcome ≡ Outcome.Finished) }
+    ensures { (result.reached ≡ begin_of t) × (result.counts ≡ zero_counts) × (result.outcome ≡ done) }
 {
     let reached = Replay {
         tween: t,
-        last: Last::Unread,
+        last: None,
         missing: 0,
         folds: 0,
     };
@@ -49,7 +50,7 @@ pub fn begin(t: Tween) -> Survey
         reached,
         counts,
         lists: Lists::empty(),
-        outcome: Outcome::Finished,
+        outcome: Ok(()),
     }
 }
 
@@ -89,7 +90,7 @@ pub fn survey_on(first: Survey, records: &[u8]) -> Survey
     for i in 0..records.len() / 8 {
         let bytes = reader::record_at(records, i);
         match hear(reached, bytes) {
-            Heard::Goes(gap, next) => {
+            Ok(Heard { gap, reached: next }) => {
                 let made = next.folds.saturating_sub(reached.folds);
                 if is_listed(gap, made, lists.least, counts) {
                     lists.note(seen_at(counts.records, bytes, reached.last, gap, made));
@@ -97,12 +98,12 @@ pub fn survey_on(first: Survey, records: &[u8]) -> Survey
                 counts = counted(counts, gap, made);
                 reached = next;
             }
-            Heard::Stops(refusal) => {
+            Err(refusal) => {
                 return Survey {
                     reached,
                     counts,
                     lists,
-                    outcome: Outcome::Refused(refusal),
+                    outcome: Err(refusal),
                 };
             }
         }
@@ -111,6 +112,6 @@ pub fn survey_on(first: Survey, records: &[u8]) -> Survey
         reached,
         counts,
         lists,
-        outcome: Outcome::Finished,
+        outcome: Ok(()),
     }
 }

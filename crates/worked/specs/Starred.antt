@@ -1,6 +1,6 @@
 -- Document 01, "Checked by hand": what a starred example says, and when it holds. Equality is bit for bit.
-use Rattle.std.specs.Prelude.{ℕ, ◌≡◌, true, false, List, [], ◌∷◌, Float}
-use Rattle.std.proofs.Common.{inr}
+use Rattle.std.specs.Prelude.{ℕ, ◌≡◌, true, false, List, [], ◌∷◌, Float, Ok, Result}
+use Rattle.std.proofs.Common.{inr, Err}
 use Rattle.std.specs.Float.{binary32}
 use Rattle.std.specs.Float.Ieee.{round}
 use Rattle.math.specs.Rounded.{one_f, zero_f}
@@ -14,12 +14,11 @@ use Rattle.loop_mode.specs.declared.Loop.{Loop}
 use Rattle.tween.specs.declared.record.Tween.{Tween}
 use Rattle.tween.specs.declared.record.TweenState.{TweenState}
 use Rattle.tween.specs.declared.record.TweenState.TheVariants.{Running}
-use Rattle.tween.specs.declared.answers.Changed.{Changed}
-use Rattle.tween.specs.declared.answers.Changed.TheVariants as changed
 use Rattle.tween.specs.declared.answers.Updated.{Updated}
-use Rattle.tween.specs.declared.answers.Updated.TheVariants as updated
 use Rattle.tween.specs.Calls.{value_of, reset_of}
 use Rattle.tween.specs.Update.{update_of}
+use Rattle.refusal.specs.declared.Rejected.{Rejected}
+use Rattle.refusal.specs.Refusing.{rejected}
 
 -- the f32 nearest to m / n
 infix 8 ◌÷◌
@@ -81,17 +80,17 @@ abbrev pub TellsAll : Tween → ℕ → List Said → Type 0
 TellsAll t k [] = Unit {0}
 TellsAll t k (s ∷ ss) = Tells t k s × TellsAll t k ss
 
-abbrev pub Accepted : List Said → Updated → Type 0
-Accepted says (updated.Ran t k running) = TellsAll t k says
-Accepted says (updated.Refused t r) = ⊥
+abbrev pub Accepted : List Said → Result Updated (Rejected Tween) → Type 0
+Accepted says (Ok o) = TellsAll o.tween o.folds says
+Accepted says (Err o) = ⊥
 
-abbrev pub RefusedBy : ℕ → Updated → Type 0
-RefusedBy n (updated.Ran t k running) = ⊥
-RefusedBy n (updated.Refused t r) = number_of r ≡ n
+abbrev pub RefusedBy : ℕ → Result Updated (Rejected Tween) → Type 0
+RefusedBy n (Ok o) = ⊥
+RefusedBy n (Err o) = number_of o.refusal ≡ n
 
-abbrev pub handed_back : Updated → Tween
-handed_back (updated.Ran t k running) = t
-handed_back (updated.Refused t r) = t
+abbrev pub handed_back : Result Updated (Rejected Tween) → Tween
+handed_back (Ok o) = o.tween
+handed_back (Err o) = o.value
 
 -- each step from where the one before it left the tween
 abbrev pub Chain : List Step → Tween → Type 0
@@ -100,9 +99,9 @@ Chain (step n says ∷ steps) t = Accepted says (update_of t (whole n)) × Chain
 Chain (refused n k ∷ steps) t = RefusedBy k (update_of t (whole n)) × Chain steps (handed_back (update_of t (whole n)))
 
 -- "just reset"
-abbrev pub FromReset : List Step → Changed → Type 0
-FromReset steps (changed.Done t) = Chain steps t
-FromReset steps (changed.Refused t r) = ⊥
+abbrev pub FromReset : List Step → Result Tween (Rejected Tween) → Type 0
+FromReset steps (Ok t) = Chain steps t
+FromReset steps (Err o) = ⊥
 
 abbrev pub Holds : Row → Type 0
 Holds (eases e t v) = value_part (apply_of e t) ≡ inr v

@@ -5,27 +5,24 @@ ghost use Rattle.keyframe.specs.Stepping.{update_of};
 ghost use Rattle.easing.specs.Ends.{equals};
 ghost use Rattle.worked.specs.Answers.{is_refused};
 
-use easing::Eased;
-use keyframe::{Stepped, Track};
+use keyframe::Track;
 use units::Seconds;
 
 pub fn gives(track: Track, secs: f32, expected: f32) -> bool
     ensures { result ≡ equals (value_at_of track secs) expected }
 {
     match track.value_at(Seconds(secs)) {
-        Eased::Value(found) => found.value == expected,
-        Eased::Refused(_) => false,
+        Ok(found) => found.value == expected,
+        Err(_) => false,
     }
 }
 
 // dt is in seconds, number the refusal's.
 pub fn refuses(track: Track, dt: f32, number: u32) -> bool
-    ensures { result ≡ is_refused (update_of track dt).stepped number }
+    ensures { result ≡ is_refused (update_of track dt) number }
 {
-    let answer = track.update(dt);
-    let stepped = answer.stepped;
-    match stepped {
-        Stepped::Ran { running: _ } => false,
-        Stepped::Refused(r) => r.number() == number,
+    match track.update(dt) {
+        Ok(_) => false,
+        Err(rejected) => rejected.refusal.number() == number,
     }
 }

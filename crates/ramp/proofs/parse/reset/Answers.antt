@@ -3,5 +3,5 @@ use mathlib.Core.Path.{sym, ◌∙◌}
 use Rattle.ramp.proofs.Resets.{breaks}
 use Rattle.ramp.proofs.parse.reset.Goals as goal
 
-pub returns-in-Refused : goal.returns-in-Refused
-returns-in-Refused c = λ h. absurd (breaks _ _ _ (sym c.reset.ensures ∙ c.in-Refused.is) h)
+pub returns-in-Err : goal.returns-in-Err
+returns-in-Err c = λ h. absurd (breaks _ _ (sym c.reset.ensures ∙ c.in-Err.is) h)

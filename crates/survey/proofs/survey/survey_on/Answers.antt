@@ -8,11 +8,11 @@ pub loop-i-init : goal.loop-i-init
 loop-i-init c = begins _ _ _
 
 pub loop-i-preserved : goal.loop-i-preserved
-loop-i-preserved c = rw (c.counted-counts.ensures, c.saturating_sub-made.ensures) (goes_on _ _ _ _ _ _ c.loop-i.invariant _ _ c.loop-i-test.true (heard-as _ _ _ _ _ _ c.record_at-bytes.ensures refl c.hear.ensures c.in-Goes.is))
+loop-i-preserved c = rw (c.counted-counts.ensures, c.saturating_sub-made.ensures) (goes_on _ _ _ _ _ _ c.loop-i.invariant _ _ c.loop-i-test.true (heard-as _ _ _ _ _ _ c.record_at-bytes.ensures refl c.hear.ensures c.in-Ok.is))
 
-pub returns-in-Stops : goal.returns-in-Stops
-returns-in-Stops c =
-    let e = stops _ _ _ _ _ _ c.loop-i.invariant _ c.loop-i-test.true (heard-as _ _ _ _ _ _ c.record_at-bytes.ensures refl c.hear.ensures c.in-Stops.is) in
+pub returns-in-Err : goal.returns-in-Err
+returns-in-Err c =
+    let e = stops _ _ _ _ _ _ c.loop-i.invariant _ c.loop-i-test.true (heard-as _ _ _ _ _ _ c.record_at-bytes.ensures refl c.hear.ensures c.in-Err.is) in
     record { reached = rw e refl; counts = rw e refl; outcome = rw e refl }
 
 pub returns : goal.returns

@@ -4,4 +4,4 @@ use Rattle.worked.proofs.Computing.{tracks}
 use Rattle.worked.proofs.tracks.k2.Goals as goal
 
 pub returns : goal.returns
-returns c = rw (c.update-answer.ensures, c.ramp.ensures) (unfold tracks in refl)
+returns c = rw (c.moved-track.ensures, c.ramp.ensures) (unfold tracks in refl)

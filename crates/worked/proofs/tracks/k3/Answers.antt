@@ -5,4 +5,4 @@ use Rattle.worked.proofs.tracks.k3.Goals as goal
 
 pub returns : goal.returns
 returns c =
-    rw (c.refuses.ensures, c.update-late.ensures, c.looping-endless.ensures, c.ramp.ensures) (unfold tracks in refl)
+    rw (c.refuses.ensures, c.moved.ensures, c.endless.ensures) (unfold tracks in refl)
