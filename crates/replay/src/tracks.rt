@@ -3,8 +3,8 @@ use crate::call::TrackCall;
 use keyframe::{Changed, Outcome, Stepped, Track, Updated};
 use rows::{
     Row, accepted, completion_row, count_word, easing_at, flag_row, float_at, floats_at, kept,
-    length_at, loop_at, marks, nothing, progress_row, put, put_floats, put_track, refused,
-    seconds_row, unknown, value_row,
+    length_at, loop_at, marks, progress_row, put_list, put_track, refused, seconds_row, unknown,
+    value_row,
 };
 use units::{Progress, Seconds};
 use words::{EasingRead, LaxTrack, LoopRead, easing_of, is_known, loop_of, track_of};
@@ -30,21 +30,17 @@ fn put_back(came: LaxTrack, head: Row, t: Track) -> Row {
     }
     kept(
         head,
-        put_track(nothing(), came, t),
-        put_track(nothing(), came, track_of(came)),
+        put_track(Row::empty(), came, t),
+        put_track(Row::empty(), came, track_of(came)),
     )
 }
 
 fn changed(came: LaxTrack, a: Changed) -> Row {
-    let outcome = a.outcome;
-    let track = a.track;
-    put_back(came, outcome_row(outcome), track)
+    put_back(came, outcome_row(a.outcome), a.track)
 }
 
 fn updated(came: LaxTrack, a: Updated) -> Row {
-    let stepped = a.stepped;
-    let track = a.track;
-    put_back(came, stepped_row(stepped), track)
+    put_back(came, stepped_row(a.stepped), a.track)
 }
 
 fn push_eased(w: LaxTrack, words: [u32; 1024]) -> Row {
@@ -71,8 +67,10 @@ fn values_at(t: Track, words: [u32; 1024]) -> Row {
     let times = floats_at(words, 2);
     let mut values = marks();
     let answer = t.fill_values(&times[..length], &mut values[..room]);
-    let p = put(put(nothing(), answer.refusal), count_word(answer.filled));
-    put_floats(p, values, room)
+    let p = Row::empty()
+        .put(answer.refusal)
+        .put(count_word(answer.filled));
+    put_list(p, &values[..room])
 }
 
 fn known(call: TrackCall, w: LaxTrack, words: [u32; 1024]) -> Row {
@@ -97,7 +95,7 @@ fn known(call: TrackCall, w: LaxTrack, words: [u32; 1024]) -> Row {
 }
 
 pub fn new(came: LaxTrack) -> Row {
-    put_track(nothing(), came, Track::new())
+    put_track(Row::empty(), came, Track::new())
 }
 
 pub fn answer(call: TrackCall, w: LaxTrack, words: [u32; 1024]) -> Row {

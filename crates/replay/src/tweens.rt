@@ -1,9 +1,8 @@
 // The calls of a tween.
 use crate::call::TweenCall;
 use rows::{
-    Row, accepted, count_word, float_at, floats_at, kept, length_at, mark_words, marks, nothing,
-    progress_row, put, put_float, put_floats, put_tween, put_words, refused, seconds_row,
-    tween_row, unknown, value_row,
+    Row, accepted, count_word, float_at, floats_at, kept, length_at, mark_words, marks,
+    progress_row, put_list, put_tween, refused, seconds_row, tween_row, unknown, value_row,
 };
 use steps::{Outcome, Run, run_steps};
 use tween::{Changed, Snapped, Tween, TweenSnapshot, Updated};
@@ -11,12 +10,12 @@ use units::Progress;
 use words::{LaxTween, TweenRead, flag_word, state_word, tween_of};
 
 fn put_snapshot(now: TweenSnapshot) -> Row {
-    let state = now.state;
-    let mut p = put_float(accepted(), now.elapsed);
-    p = put_float(p, now.delay_elapsed);
-    p = put(p, state_word(state));
-    p = put(p, now.loop_count);
-    put(p, flag_word(now.ping_pong_reverse))
+    accepted()
+        .put_float(now.elapsed)
+        .put_float(now.delay_elapsed)
+        .put(state_word(now.state))
+        .put(now.loop_count)
+        .put(flag_word(now.ping_pong_reverse))
 }
 
 fn snapped(a: Snapped) -> Row {
@@ -40,7 +39,7 @@ fn updated(came: Row, a: Updated) -> Row {
             tween,
             folds,
             running,
-        } => put_tween(put(put(accepted(), folds), flag_word(running)), tween),
+        } => put_tween(accepted().put(folds).put(flag_word(running)), tween),
         Updated::Refused { tween, refusal } => kept(refused(refusal), tween_row(tween), came),
     }
 }
@@ -54,13 +53,13 @@ fn outcome_number(outcome: Outcome) -> u32 {
 
 // Where no step was taken the tween is kept.
 fn put_run(came: Row, a: Run) -> Row {
-    let outcome = a.outcome;
-    let tween = a.tween;
-    let head = put(put(nothing(), outcome_number(outcome)), count_word(a.done));
+    let head = Row::empty()
+        .put(outcome_number(a.outcome))
+        .put(count_word(a.done));
     if a.done == 0 {
-        return kept(head, tween_row(tween), came);
+        return kept(head, tween_row(a.tween), came);
     }
-    put_tween(head, tween)
+    put_tween(head, a.tween)
 }
 
 // The steps stand behind the lengths of the three lists.
@@ -77,8 +76,8 @@ fn run(t: Tween, words: [u32; 1024]) -> Row {
         &mut values[..values_length],
         &mut folds[..folds_length],
     );
-    let p = put_floats(put_run(tween_row(t), a), values, values_length);
-    put_words(p, folds, folds_length)
+    let p = put_list(put_run(tween_row(t), a), &values[..values_length]);
+    put_list(p, &folds[..folds_length])
 }
 
 fn known(call: TweenCall, t: Tween, words: [u32; 1024]) -> Row {
