@@ -27,7 +27,8 @@ pub fn float_word(x: f32) -> u32
     math::bits(x)
 }
 
-// Words one behind the other: the first count of the list. Behind them it is 0.
+// Words one behind the other: the first count of the list, which has a fixed size since there is no heap. Behind
+// them it is 0.
 #[derive(Clone, Copy)]
 pub struct Row {
     pub list: [u32; 1024],
