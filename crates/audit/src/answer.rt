@@ -6,14 +6,6 @@ use crate::put::line_so_far;
 use crate::walk::Walk;
 use std::io;
 use std::rt::HostRuntime;
-use survey::Seen;
-
-fn place_of(first: Option<Seen>) -> Option<u64> {
-    match first {
-        Some(one) => Some(one.place),
-        None => None,
-    }
-}
 
 // The passes of each update of more than one, as far as they are known.
 fn passes(rt: &HostRuntime, w: &Walk) -> io::Result<()> {
@@ -22,11 +14,9 @@ fn passes(rt: &HostRuntime, w: &Walk) -> io::Result<()> {
         let none = "answer no update that was replayed made more than one pass";
         return line_so_far(rt, none, w.is_stopped());
     }
-    let loss = loss_from(
-        w.first,
-        place_of(s.lists.gaps[0]),
-        place_of(s.lists.repeats[0]),
-    );
+    let gap = s.lists.gaps[0].map(|one| one.place);
+    let repeat = s.lists.repeats[0].map(|one| one.place);
+    let loss = loss_from(w.first, gap, repeat);
     list_lines(
         rt,
         &s.lists.many,

@@ -3,7 +3,6 @@ use refusal::Refusal;
 use std::fs::File;
 use std::rt::HostRuntime;
 use survey::{Survey, survey_on};
-use tools::STDERR_FILENO;
 use tween::Tween;
 
 // first is the number of the first record. failed: a read failed.
@@ -68,14 +67,11 @@ fn is_long(length: Option<u64>) -> bool {
     length.is_none_or(|n| n > 33554432)
 }
 
-// Each 16 MiB.
-fn say_progress(bytes: u64) {
-    if bytes % 16777216 != 0 {
-        return;
+// Each 16 MiB, on standard error.
+fn say_progress(rt: &HostRuntime, bytes: u64) {
+    if bytes % 16777216 == 0 {
+        let _said = eprintln!(rt; "audit: {} MiB read", bytes / 1048576);
     }
-    tools::say(STDERR_FILENO, b"audit: ");
-    tools::say_number(STDERR_FILENO, bytes / 1048576);
-    tools::say(STDERR_FILENO, b" MiB read\n");
 }
 
 // The whole log, behind its head.
@@ -88,7 +84,7 @@ pub fn all(rt: &HostRuntime, file: &mut File, t: Tween, length: Option<u64>) -> 
             return w;
         }
         if long {
-            say_progress(w.bytes);
+            say_progress(rt, w.bytes);
         }
     }
     w

@@ -4,8 +4,8 @@ use keyframe::{Track, Updated};
 use refusal::{Refusal, Rejected};
 use rows::{
     Row, accepted, completion_row, count_word, easing_at, flag_row, float_at, floats_at, kept,
-    length_at, loop_at, marks, nothing, progress_row, put, put_floats, put_track, refused,
-    seconds_row, unknown, value_row,
+    length_at, loop_at, marks, progress_row, put_list, put_track, refused, seconds_row, unknown,
+    value_row,
 };
 use units::{Progress, Seconds};
 use words::{LaxTrack, easing_of, is_known, loop_of, track_of};
@@ -17,8 +17,8 @@ fn put_back(came: LaxTrack, head: Row, t: Track) -> Row {
     }
     kept(
         head,
-        put_track(nothing(), came, t),
-        put_track(nothing(), came, track_of(came)),
+        put_track(Row::empty(), came, t),
+        put_track(Row::empty(), came, track_of(came)),
     )
 }
 
@@ -60,8 +60,10 @@ fn values_at(t: Track, words: [u32; 1024]) -> Row {
     let times = floats_at(words, 2);
     let mut values = marks();
     let answer = t.fill_values(&times[..length], &mut values[..room]);
-    let p = put(put(nothing(), answer.refusal), count_word(answer.filled));
-    put_floats(p, values, room)
+    let p = Row::empty()
+        .put(answer.refusal)
+        .put(count_word(answer.filled));
+    put_list(p, &values[..room])
 }
 
 fn known(call: TrackCall, w: LaxTrack, words: [u32; 1024]) -> Row {
@@ -86,7 +88,7 @@ fn known(call: TrackCall, w: LaxTrack, words: [u32; 1024]) -> Row {
 }
 
 pub fn new(came: LaxTrack) -> Row {
-    put_track(nothing(), came, Track::new())
+    put_track(Row::empty(), came, Track::new())
 }
 
 pub fn answer(call: TrackCall, w: LaxTrack, words: [u32; 1024]) -> Row {

@@ -2,9 +2,8 @@
 use crate::call::TweenCall;
 use refusal::{Refusal, Rejected};
 use rows::{
-    Row, accepted, count_word, float_at, floats_at, kept, length_at, mark_words, marks, nothing,
-    progress_row, put, put_float, put_floats, put_tween, put_words, refused, seconds_row,
-    tween_row, unknown, value_row,
+    Row, accepted, count_word, float_at, floats_at, kept, length_at, mark_words, marks,
+    progress_row, put_list, put_tween, refused, seconds_row, tween_row, unknown, value_row,
 };
 use steps::{Run, run_steps};
 use tween::{Tween, TweenSnapshot, Updated};
@@ -12,12 +11,12 @@ use units::Progress;
 use words::{LaxTween, flag_word, state_word, tween_of};
 
 fn put_snapshot(now: TweenSnapshot) -> Row {
-    let state = now.state;
-    let mut p = put_float(accepted(), now.elapsed);
-    p = put_float(p, now.delay_elapsed);
-    p = put(p, state_word(state));
-    p = put(p, now.loop_count);
-    put(p, flag_word(now.ping_pong_reverse))
+    accepted()
+        .put_float(now.elapsed)
+        .put_float(now.delay_elapsed)
+        .put(state_word(now.state))
+        .put(now.loop_count)
+        .put(flag_word(now.ping_pong_reverse))
 }
 
 fn snapped(a: Result<TweenSnapshot, Refusal>) -> Row {
@@ -37,13 +36,10 @@ fn changed(came: Row, a: Result<Tween, Rejected<Tween>>) -> Row {
 
 fn updated(came: Row, a: Result<Updated, Rejected<Tween>>) -> Row {
     match a {
-        Ok(
-            Updated {
-                tween,
-                folds,
-                running,
-            },
-        ) => put_tween(put(put(accepted(), folds), flag_word(running)), tween),
+        Ok(u) => put_tween(
+            accepted().put(u.folds).put(flag_word(u.running)),
+            u.tween,
+        ),
         Err(rejected) => kept(refused(rejected.refusal), tween_row(rejected.value), came),
     }
 }
@@ -57,13 +53,13 @@ fn outcome_number(outcome: Result<(), Refusal>) -> u32 {
 
 // Where no step was taken the tween is kept.
 fn put_run(came: Row, a: Run) -> Row {
-    let outcome = a.outcome;
-    let tween = a.tween;
-    let head = put(put(nothing(), outcome_number(outcome)), count_word(a.done));
+    let head = Row::empty()
+        .put(outcome_number(a.outcome))
+        .put(count_word(a.done));
     if a.done == 0 {
-        return kept(head, tween_row(tween), came);
+        return kept(head, tween_row(a.tween), came);
     }
-    put_tween(head, tween)
+    put_tween(head, a.tween)
 }
 
 // The steps stand behind the lengths of the three lists.
@@ -80,8 +76,8 @@ fn run(t: Tween, words: [u32; 1024]) -> Row {
         &mut values[..values_length],
         &mut folds[..folds_length],
     );
-    let p = put_floats(put_run(tween_row(t), a), values, values_length);
-    put_words(p, folds, folds_length)
+    let p = put_list(put_run(tween_row(t), a), &values[..values_length]);
+    put_list(p, &folds[..folds_length])
 }
 
 fn known(call: TweenCall, t: Tween, words: [u32; 1024]) -> Row {

@@ -2,7 +2,7 @@
 use crate::call::{Call, EasingCall, Kind, TrackCall, TweenCall};
 use crate::read::next;
 use crate::{easings, tracks, tweens};
-use rows::{Row, is_answer, length_at, nothing, track_in, tween_in, word};
+use rows::{Row, is_answer, length_at, track_in, tween_in, word};
 use std::fs::File;
 use words::{LaxTrack, LaxTween};
 
@@ -31,7 +31,7 @@ pub struct Cut {
 
 impl Given {
     fn none() -> Given {
-        let words = nothing().list;
+        let words = Row::empty().list;
         Given {
             tween: tween_in(words),
             track: track_in(words),

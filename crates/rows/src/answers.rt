@@ -3,7 +3,7 @@ ghost use Rattle.std.specs.Prelude.{◌≡◌};
 ghost use Rattle.rows.specs.Words.{put_of, row_of};
 ghost use Rattle.rows.specs.Answers.{unknown_words, refused_words, accepted_words, flag_words, float_words, value_words, seconds_words, progress_words, equality_words, completion_words};
 
-use crate::entries::{Row, float_word, is_same, nothing, put};
+use crate::entries::Row;
 use bezier::Found;
 use refusal::Refusal;
 use units::{Progress, Seconds};
@@ -12,38 +12,38 @@ use words::{UNKNOWN_WORD, flag_word};
 pub fn unknown() -> Row
     ensures { result ≡ row_of unknown_words }
 {
-    put(nothing(), UNKNOWN_WORD)
+    Row::empty().put(UNKNOWN_WORD)
 }
 
 pub fn refused(refusal: Refusal) -> Row
     ensures { result ≡ row_of (refused_words refusal) }
 {
-    put(nothing(), refusal.number())
+    Row::empty().put(refusal.number())
 }
 
 pub fn accepted() -> Row
     ensures { result ≡ row_of accepted_words }
 {
-    put(nothing(), 0)
+    Row::empty().put(0)
 }
 
 // Behind the head a 1 where the record that is handed back is the one that came.
 pub fn kept(head: Row, back: Row, came: Row) -> Row
     ensures { (back.list ≡ came.list → result ≡ put_of head 1) × ((back.list ≡ came.list → ⊥) → result ≡ put_of head 0) }
 {
-    put(head, flag_word(is_same(back, came)))
+    head.put(flag_word(back.list == came.list))
 }
 
 pub fn flag_row(b: bool) -> Row
     ensures { result ≡ row_of (flag_words b) }
 {
-    put(accepted(), flag_word(b))
+    accepted().put(flag_word(b))
 }
 
 fn float_row(x: f32) -> Row
     ensures { result ≡ row_of (float_words x) }
 {
-    put(accepted(), float_word(x))
+    accepted().put_float(x)
 }
 
 pub fn value_row(a: Result<Found, Refusal>) -> Row

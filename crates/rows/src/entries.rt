@@ -27,37 +27,42 @@ pub fn float_word(x: f32) -> u32
     math::bits(x)
 }
 
-// Words one behind the other: the first count of the list. Behind them it is 0.
+// Words one behind the other: the first count of the list, which has a fixed size since there is no heap. Behind
+// them it is 0.
 #[derive(Clone, Copy)]
 pub struct Row {
     pub list: [u32; 1024],
     pub count: usize,
 }
 
-pub fn nothing() -> Row
-    ensures { result ≡ empty_row }
-{
-    let list = [0u32; 1024];
-    Row { list, count: 0 }
-}
-
-// One word more. A word that finds no room is left out.
-pub fn put(p: Row, w: u32) -> Row
-    ensures { result ≡ put_of p w }
-{
-    let mut q = p;
-    let n = q.count;
-    if n < 1024 {
-        q.list[n] = w;
-        q.count = n + 1;
+impl Row {
+    pub fn empty() -> Row
+        ensures { result ≡ empty_row }
+    {
+        Row {
+            list: [0; 1024],
+            count: 0,
+        }
     }
-    q
-}
 
-pub fn put_float(p: Row, x: f32) -> Row
-    ensures { result ≡ put_of p (word_of x) }
-{
-    put(p, float_word(x))
+    // One word more. A word that finds no room is left out.
+    pub fn put(self, w: u32) -> Row
+        ensures { result ≡ put_of self w }
+    {
+        let mut q = self;
+        let n = q.count;
+        if n < 1024 {
+            q.list[n] = w;
+            q.count = n + 1;
+        }
+        q
+    }
+
+    pub fn put_float(self, x: f32) -> Row
+        ensures { result ≡ put_of self (word_of x) }
+    {
+        self.put(float_word(x))
+    }
 }
 
 // Whether the words from a place on are the first n of out.
@@ -78,10 +83,4 @@ pub fn is_answer(words: [u32; 1024], count: usize, from: usize, answer: Row) -> 
         return false;
     }
     is_rest(&words[..count], from, &answer.list, answer.count)
-}
-
-pub fn is_same(p: Row, q: Row) -> bool
-    ensures { Tells result (p.list ≡ q.list) }
-{
-    p.list == q.list
 }

@@ -12,7 +12,7 @@ pub use answers::{
     accepted, completion_row, equality_row, flag_row, kept, progress_row, refused, seconds_row,
     unknown, value_row,
 };
-pub use entries::{Row, float_at, is_answer, nothing, put, put_float, word};
+pub use entries::{Row, float_at, is_answer, word};
 pub use given::{easing_at, loop_at, track_in, tween_in};
 pub use handed::{put_easing, put_track, put_tween, tween_row};
 pub use lists::{Word, count_word, floats_at, length_at, mark_words, marks, put_list};

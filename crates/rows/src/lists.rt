@@ -3,7 +3,7 @@ ghost use Rattle.std.specs.Prelude.{◌≡◌, ℕ, ◌≤◌, ◌<◌, map, len
 ghost use Rattle.rows.specs.Words.{word_of, put_all};
 ghost use Rattle.rows.specs.Lent.{length_at, mark_words, mark_floats, floats_at, count_word};
 
-use crate::entries::{Row, float_at, float_word, put, word};
+use crate::entries::{Row, float_at, float_word, word};
 
 // What stands in a lent output before a call: 1e30, which no call writes.
 const MARK: u32 = 0x7149_f2ca;
@@ -67,7 +67,7 @@ pub fn put_list<T: Word + Copy>(before: Row, list: &[T]) -> Row
 {
     let mut p = before;
     for x in list {
-        p = put(p, x.word());
+        p = p.put(x.word());
     }
     p
 }

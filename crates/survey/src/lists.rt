@@ -45,19 +45,13 @@ pub fn seen_at(place: u64, bytes: [u8; 8], last: Option<u16>, gap: u16, folds: u
 
 // The folds of a place; 0 where it holds none.
 fn folds_in(place: Option<Seen>) -> u64 {
-    match place {
-        Some(one) => one.folds,
-        None => 0,
-    }
+    place.map_or(0, |one| one.folds)
 }
 
 // One more at the end of a list, unless it is full.
 fn push(list: &mut [Option<Seen>; 20], one: Seen) {
-    for place in list {
-        if place.is_none() {
-            *place = Some(one);
-            return;
-        }
+    if let Some(free) = list.iter().position(|place| place.is_none()) {
+        list[free] = Some(one);
     }
 }
 

@@ -17,7 +17,7 @@ pub fn gives(track: Track, secs: f32, expected: f32) -> bool
     }
 }
 
-// dt is in seconds, number the refusal's.
+// dt is in seconds. The examples, and `is_refused` with them, name a refusal by its number.
 pub fn refuses(track: Track, dt: f32, number: u32) -> bool
     ensures { result ≡ is_refused (update_of track dt) number }
 {

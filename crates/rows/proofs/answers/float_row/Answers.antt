@@ -4,4 +4,4 @@ use Rattle.rows.proofs.answers.float_row.Goals as goal
 
 pub returns : goal.returns
 unfolding put_all
-returns c = simp (c.put.ensures, c.float_word.ensures, c.accepted.ensures)
+returns c = simp (c.put_float.ensures, c.accepted.ensures)

@@ -4,4 +4,4 @@ use Rattle.rows.proofs.answers.refused.Goals as goal
 
 pub returns : goal.returns
 unfolding put_all
-returns c = simp (c.put.ensures, c.number.ensures, c.nothing.ensures)
+returns c = simp (c.put.ensures, c.number.ensures, c.empty.ensures)

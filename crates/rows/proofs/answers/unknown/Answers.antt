@@ -4,4 +4,4 @@ use Rattle.rows.proofs.answers.unknown.Goals as goal
 
 pub returns : goal.returns
 unfolding put_all
-returns c = simp (c.put.ensures, c.nothing.ensures)
+returns c = simp (c.put.ensures, c.empty.ensures)

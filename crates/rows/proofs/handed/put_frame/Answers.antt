@@ -4,4 +4,4 @@ use Rattle.rows.proofs.handed.put_frame.Goals as goal
 
 pub returns : goal.returns
 unfolding put_all
-returns c = simp (c.put_easing.ensures, c.put_float-p-2.ensures, c.put_float-p.ensures)
+returns c = simp (c.put_easing.ensures, c.put_float-2.ensures, c.put_float.ensures)

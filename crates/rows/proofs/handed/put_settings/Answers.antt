@@ -4,4 +4,4 @@ use Rattle.rows.proofs.handed.put_settings.Goals as goal
 
 pub returns : goal.returns
 unfolding put_all
-returns c = simp (c.put.ensures, c.put-p.ensures, c.put_float-p-5.ensures, c.put_float-p-4.ensures, c.put_easing-p.ensures, c.put_float-p-3.ensures, c.put_float-p-2.ensures, c.put_float-p.ensures)
+returns c = simp (c.put-2.ensures, c.put.ensures, c.put_float-4.ensures, c.put_float-3.ensures, c.put_easing.ensures, c.put_float-front.ensures, c.put_float-2.ensures, c.put_float.ensures)

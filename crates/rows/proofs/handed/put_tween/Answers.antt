@@ -4,4 +4,4 @@ use Rattle.rows.proofs.handed.put_tween.Goals as goal
 
 pub returns : goal.returns
 unfolding put_all
-returns c = simp (c.put.ensures, c.put-p-2.ensures, c.put-p.ensures, c.put_float-p-2.ensures, c.put_float-p.ensures, c.put_settings-p.ensures, c.tween_words-w.ensures)
+returns c = simp (c.put-3.ensures, c.put-2.ensures, c.put.ensures, c.put_float-2.ensures, c.put_float.ensures, c.put_settings.ensures, c.tween_words-w.ensures)

@@ -2,7 +2,7 @@
 use mathlib.Core.Path.{refl}
 use borrow.Author.Tests.{lt-ltb, le-ltb}
 use Rattle.rows.specs.Words.{put_of}
-use Rattle.rows.proofs.entries.put.Goals as goal
+use Rattle.rows.proofs.entries.Row.put.Goals as goal
 
 pub returns-then-n-lt1024 : goal.returns-then-n-lt1024
 unfolding put_of
