@@ -84,8 +84,7 @@ pub fn solve(x1: f32, x2: f32, t: f32) -> Solved
     ensures { result ≡ solve_of x1 x2 t }
 {
     let mut u = t;
-    let mut made: u8 = 0;
-    while made < 6 {
+    for made in 0..6u8 {
         match newton_turn(x1, x2, t, u) {
             Turn::Near => {
                 return Solved {
@@ -95,15 +94,9 @@ pub fn solve(x1: f32, x2: f32, t: f32) -> Solved
                     derivatives: made,
                 };
             }
-            Turn::Flat => {
-                made += 1;
-                break;
-            }
-            Turn::Next(v) => {
-                made += 1;
-                u = v;
-            }
+            Turn::Flat => return bisect(x1, x2, t, t, made + 1),
+            Turn::Next(v) => u = v,
         }
     }
-    bisect(x1, x2, t, t, made)
+    bisect(x1, x2, t, t, 6)
 }

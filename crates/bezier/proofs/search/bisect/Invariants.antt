@@ -6,6 +6,3 @@ use Rattle.bezier.proofs.search.bisect.Given as goal
 
 abbrev pub invariant-loop-k : goal.invariant-loop-k
 invariant-loop-k l = (l.k ≤ 10) × (after l.k 0 (bisect_of l.x1 l.x2 l.t (10 - l.k) (near_of l.x1 l.x2 l.t l.s.u) l.s) ≡ bisect_from l.x1 l.x2 l.t l.from)
-
-abbrev pub decreases-loop-k : goal.decreases-loop-k
-decreases-loop-k l = 10 - l.k

@@ -6,6 +6,3 @@ use Rattle.bezier.proofs.search.solve.Given as goal
 
 abbrev pub invariant-loop-made : goal.invariant-loop-made
 invariant-loop-made l = (l.made ≤ 6) × (after l.made l.made (newton_of l.x1 l.x2 l.t (6 - l.made) (turn_of l.x1 l.x2 l.t l.u) l.u) ≡ solve_of l.x1 l.x2 l.t)
-
-abbrev pub decreases-loop-made : goal.decreases-loop-made
-decreases-loop-made l = 6 - l.made
