@@ -5,7 +5,7 @@ use native.Mathlib.Omega.{arith}
 use borrow.Author.Rules.{rules}
 use Rattle.bezier.specs.Search.{solved_at, after}
 use Rattle.bezier.proofs.Steps.{counts, after_both, bisect-near, bisect-next, bisect-spent}
-use Rattle.bezier.proofs.search.bisect.Goals as goal
+use Rattle.bezier.proofs.search.Search.bisect.Goals as goal
 
 pub returns-then-is_below : goal.returns-then-is_below
 returns-then-is_below c = counts (after c.args.steps c.args.steps (after c.loop-k.k 0 (after 1 0 (solved_at true c.loop-k.s.u)))) _ _

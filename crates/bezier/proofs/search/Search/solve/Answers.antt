@@ -5,7 +5,7 @@ use native.Mathlib.Omega.{arith}
 use borrow.Author.Rules.{rules}
 use Rattle.bezier.specs.Search.{solved_at, after}
 use Rattle.bezier.proofs.Steps.{counts, after_both, newton-near, newton-flat, newton-next, newton-spent}
-use Rattle.bezier.proofs.search.solve.Goals as goal
+use Rattle.bezier.proofs.search.Search.solve.Goals as goal
 
 pub returns-in-Near : goal.returns-in-Near
 returns-in-Near c = counts (after c.loop-made.made _ (after 1 0 (solved_at true c.loop-made.u))) _ _
