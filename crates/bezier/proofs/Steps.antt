@@ -17,9 +17,6 @@ use Rattle.bezier.specs.declared.types.Solved.{Solved}
 pub counts : (f : Solved) (x d : ℕ) {g : Solved} → f ≡ g → x ≡ f.xs → d ≡ f.derivatives → record { u = f.u; settled = f.settled; xs = x; derivatives = d } ≡ g
 counts f x d e p q = rw (p, q) e
 
-pub after_none : (f : Solved) → after 0 0 f ≡ f
-after_none f = counts f (0 + f.xs) (0 + f.derivatives) refl (omega arith) (omega arith)
-
 pub after_both : (x d y e : ℕ) (f : Solved) → after (x + y) (d + e) f ≡ after x d (after y e f)
 after_both x d y e f = counts (after x d (after y e f)) (x + y + f.xs) (d + e + f.derivatives) refl (omega arith) (omega arith)
 

@@ -2,7 +2,7 @@
 ghost use Rattle.std.specs.Prelude.{◌≡◌};
 ghost use Rattle.bezier.specs.Bezier.{plain_of, found_by, with_value};
 
-// A u, and the search for it: how many x and how many derivatives were evaluated, and whether the last x met the tolerance. derivatives is a byte for the sake of the mark behind it: at a place that is a multiple of four the mark would be read as a word just after it was written as a byte, for which a processor waits.
+// A u, and the search for it: how many x and how many derivatives were evaluated, and whether the last x met the tolerance. The u stands either way, so `settled` is no Option; and `FoundWithin` and `SettledNear` speak of the u, so it is no Found with the u for its value. derivatives is a byte for the sake of the mark behind it: at a place that is a multiple of four the mark would be read as a word just after it was written as a byte, for which a processor waits.
 #[derive(Clone, Copy)]
 pub struct Solved {
     pub u: f32,

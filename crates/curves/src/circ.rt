@@ -1,4 +1,5 @@
-// The circular curves, for a t from 0 to 1: inner steps of our own crates, which clamp t first.
+// The circular curves, for a t from 0 to 1: inner steps of our own crates, which clamp t first. A type for such a t would
+// be no plainer: the other curves take any t, so that these three would be called in another way.
 ghost use Rattle.std.specs.Prelude.{◌≡◌};
 ghost use Rattle.math.specs.Rounded.{◌⊖◌, ◌⊗◌, one_f};
 ghost use Rattle.math.specs.Range.{Within};

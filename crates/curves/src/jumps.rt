@@ -1,7 +1,7 @@
 // W3C's steps: CSS Easing Functions Level 1, "Step easing functions".
 ghost use Rattle.std.specs.Prelude.{◌≡◌, ◌≤◌};
 ghost use Rattle.math.specs.Range.{Within};
-ghost use Rattle.curves.specs.Jumps.{least_of, raised_of, lowered_of, jumps_of, cut_of, jump_of};
+ghost use Rattle.curves.specs.Jumps.{least_of, raised_of, lowered_of, jumps_of, jump_of};
 
 // Where rises lie beside those within: one at 0, one at 1, one at each, or none.
 #[derive(Clone, Copy)]
@@ -56,18 +56,10 @@ fn lowered(before: bool, whole: bool, step: u32) -> u32
     ensures { result ≡ lowered_of before whole step }
 {
     if before & whole {
-        if step == 0 {
-            return 0;
-        }
-        return step - 1;
+        step.saturating_sub(1)
+    } else {
+        step
     }
-    step
-}
-
-fn cut(step: u32, jumps: u32) -> u32
-    ensures { result ≡ cut_of step jumps }
-{
-    if step < jumps { step } else { jumps }
 }
 
 // n steps at t, from 0 to 1. before is W3C's flag: at a rise it gives the step below it.
@@ -81,6 +73,6 @@ pub fn jump(position: Position, before: bool, t: f32, n: u32) -> f32
     let floor = math::whole_part(product);
     let whole = product <= std::num::nearest_u32_to_f32(floor);
     let jumps = position.jumps(n);
-    let step = cut(lowered(before, whole, position.raised(floor)), jumps);
+    let step = lowered(before, whole, position.raised(floor)).min(jumps);
     std::num::nearest_u32_to_f32(step) / std::num::nearest_u32_to_f32(jumps)
 }

@@ -1,4 +1,5 @@
-// The curves of the second to the fifth power.
+// The curves of the second to the fifth power. Each of the source's names is one line here: with a trait for the power
+// it would still be one, that calls the trait's.
 ghost use Rattle.std.specs.Prelude.{◌≡◌, if◌then◌else◌};
 ghost use Rattle.std.specs.Float.Ieee.{lt};
 ghost use Rattle.math.specs.Rounded.{half_f};

@@ -1,4 +1,5 @@
-// The square root, worked out from the bits. It is an inner step of the circular curves: the module
+// The square root, worked out from the bits: `f32::sqrt` calls C's where a processor has no instruction for it, and the
+// library needs no C library. It is an inner step of the circular curves: the module
 // is private, so that no other crate can name it, and each use is shown to be of an x from 0 to 1.
 ghost use Rattle.std.specs.Prelude.{◌≡◌, ◌*◌, ◌^◌, ◌<◌, ◌≤◌, false, Float};
 ghost use Rattle.std.specs.Float.Ieee.Exact.{HasValue};
@@ -17,7 +18,7 @@ fn times(a: u32, b: u32) -> u32 {
 }
 
 fn less(a: u32, b: u32) -> u32 {
-    std::num::wrapping_sub_u32(a, b)
+    a.wrapping_sub(b)
 }
 
 // 1 / √m in units of 2 ^ -30, for an m from 1 to 4 in units of 2 ^ -29: by a cubic, at most 0.7 % off.
@@ -46,7 +47,7 @@ fn guess(n: u64) -> u64
 
 // The whole number nearest to the root of n, which is from 2 ^ 46 to (2 ^ 24 - 1) * 2 ^ 24, so that
 // the root has 24 binary digits. No root is half way between two whole numbers: q is the nearest where
-// q * (q - 1) < n ≤ q * (q + 1). From any guess the two loops end there.
+// q * (q - 1) < n ≤ q * (q + 1). From any guess the two loops end there: they count no index.
 fn nearest_root(n: u64) -> u64
     requires { (0x4000_0000_0000 ≤ n) × (n ≤ 0xffff_ff00_0000) }
     ensures { Encloses result n }
@@ -82,7 +83,7 @@ fn root_of(sig: u32, place: u32) -> f32
     let mut rest = place + 126;
     if sig < 0x80_0000 {
         // a subnormal number has fewer digits than 24
-        let up = u32::leading_zeros(sig) + 15;
+        let up = sig.leading_zeros() + 15;
         n = (sig as u64) << up;
         rest = place + 149 - up;
     }

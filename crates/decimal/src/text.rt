@@ -13,7 +13,7 @@ impl Text {
     ghost use Rattle.std.specs.Prelude.{◌≡◌, ℕ, List, [], ◌++◌, ◌+◌, length, take};
     ghost use Rattle.decimal.specs.Printing.{Shows};
 
-    pub fn empty() -> Text
+    pub(crate) fn empty() -> Text
         ensures { Shows result [] }
     {
         Text {
@@ -23,7 +23,7 @@ impl Text {
     }
 
     // With more bytes behind it.
-    pub fn with(self, more: &[u8]) -> Text
+    pub(crate) fn with(self, more: &[u8]) -> Text
         requires { self.length + length more.now ≤ 64 }
         ensures { (s : List ℕ) → Shows self s → Shows result (s ++ more.now) }
     {
@@ -33,6 +33,7 @@ impl Text {
         Text { bytes, length }
     }
 
+    // The text itself.
     pub fn as_bytes(&self) -> &[u8]
         ensures { result.now ≡ take self.now.length self.now.bytes }
     {

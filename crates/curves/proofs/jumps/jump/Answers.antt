@@ -32,4 +32,4 @@ raised-requires c = few (goal.at.raised-requires c).After-whole_part-floor
 
 pub returns : goal.returns
 unfolding jump_of
-returns c = simp (c.nearest_u32_to_f32-4.ensures, c.nearest_u32_to_f32-3.ensures, c.cut-step.ensures, c.lowered.ensures, c.raised.ensures, c.jumps-jumps.ensures, c.nearest_u32_to_f32-2.ensures, c.whole_part-floor.ensures, c.nearest_u32_to_f32.ensures, tested (goal.at.returns c).After-nearest_u32_to_f32)
+returns c = simp (c.nearest_u32_to_f32-4.ensures, c.nearest_u32_to_f32-3.ensures, c.min-step.ensures, c.lowered.ensures, c.raised.ensures, c.jumps-jumps.ensures, c.nearest_u32_to_f32-2.ensures, c.whole_part-floor.ensures, c.nearest_u32_to_f32.ensures, tested (goal.at.returns c).After-nearest_u32_to_f32)

@@ -36,24 +36,6 @@ scaled c =
           scaled-by a.sig a.place 23 _ _ (moved a.sig 23 (omega arith) (omega (arith, w.if-sig-lt8388608.false)) (omega (arith, p.1))) (omega (arith, w.rest-is)) (omega (arith, w.rest-is, p.2)) w.n-is
     ]
 
-pub overflow_add-rest : goal.overflow_add-rest
-overflow_add-rest c = omega (arith, c.requires.2)
-
-pub overflow_add-up : goal.overflow_add-up
-overflow_add-up c = omega (arith, zeros (goal.at.overflow_add-up c).Then-sig-lt8388608)
-
-pub overflow_cast-n-then-sig-lt8388608-2 : goal.overflow_cast-n-then-sig-lt8388608-2
-overflow_cast-n-then-sig-lt8388608-2 c = omega (arith, zeros (goal.at.overflow_cast-n-then-sig-lt8388608-2 c).Then-sig-lt8388608)
-
-pub overflow_shl-n-then-sig-lt8388608 : goal.overflow_shl-n-then-sig-lt8388608
-overflow_shl-n-then-sig-lt8388608 c = omega (arith, zeros (goal.at.overflow_shl-n-then-sig-lt8388608 c).Then-sig-lt8388608)
-
-pub overflow_add-rest-then-sig-lt8388608 : goal.overflow_add-rest-then-sig-lt8388608
-overflow_add-rest-then-sig-lt8388608 c = omega (arith, c.requires.2)
-
-pub overflow_sub-rest : goal.overflow_sub-rest
-overflow_sub-rest c = omega (arith, zeros (goal.at.overflow_sub-rest c).Then-sig-lt8388608)
-
 pub scaled_root-requires : goal.scaled_root-requires
 scaled_root-requires c = ((scaled (goal.at.scaled_root-requires c).Joined-sig-lt8388608).long.0, (scaled (goal.at.scaled_root-requires c).Joined-sig-lt8388608).long.1, (scaled (goal.at.scaled_root-requires c).Joined-sig-lt8388608).few)
 

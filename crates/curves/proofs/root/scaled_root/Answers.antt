@@ -23,20 +23,5 @@ pub returns : goal.returns
 returns c = λ x v. let q = c.nearest_root-q.result in let n = c.args.n in let rest = c.args.rest in subst⁻¹ (Root x) (written (rest / 2) q (few (goal.at.returns c).Start) (long (goal.at.returns c).After-nearest_root-q).0 (long (goal.at.returns c).After-nearest_root-q).1)
     (rooted x (n * (1 + rest % 2)) (rest / 2) q (subst⁻¹ (λ (a : ℕ). HasValue x false a (2 ^ 298)) (evened n rest) v) (ready (goal.at.returns c).Start) c.nearest_root-q.ensures)
 
-pub overflow_mul-n : goal.overflow_mul-n
-overflow_mul-n c = record { fits = omega (arith, (ready (goal.at.overflow_mul-n c).Start).1) }
-
-pub nearest_root-q-requires : goal.nearest_root-q-requires
-nearest_root-q-requires c = ready (goal.at.nearest_root-q-requires c).Start
-
-pub overflow_mul-result : goal.overflow_mul-result
-overflow_mul-result c = omega (arith, few (goal.at.overflow_mul-result c).Start)
-
-pub overflow_cast-result : goal.overflow_cast-result
-overflow_cast-result c = omega (arith, long (goal.at.overflow_cast-result c).After-nearest_root-q)
-
-pub overflow_add-result : goal.overflow_add-result
-overflow_add-result c = omega (arith, few (goal.at.overflow_add-result c).Start, long (goal.at.overflow_add-result c).After-nearest_root-q)
-
 pub float_from_bits-result : goal.float_from_bits-result
 float_from_bits-result c = no_nan _ _ (few (goal.at.float_from_bits-result c).Start) (long (goal.at.float_from_bits-result c).After-nearest_root-q).0 (long (goal.at.float_from_bits-result c).After-nearest_root-q).1

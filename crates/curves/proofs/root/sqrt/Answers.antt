@@ -1,10 +1,8 @@
 -- `sqrt` meets its contract: what it returns is a square root of x, and there is only one. That x has a pattern rests on its being a value of binary32. Assumes nothing.
-use Rattle.std.proofs.Common.{◌≡◌, ℕ, suc, ◌-◌, ◌/◌, ◌%◌, Bool, not, T, sym, refl, ◌∙◌, subst, true≢false, arith}
+use Rattle.std.proofs.Common.{◌≡◌, ℕ, suc, ◌-◌, ◌/◌, ◌%◌, sym, refl, ◌∙◌, subst, true≢false, arith}
 use denote.Floats.{passes}
-use mathlib.Core.Path.{subst⁻¹}
 use mathlib.Core.Bool.{false≢true}
 use lib.Ieee.{Float, binary32, to_bits}
-use Rattle.math.proofs.Order.{le-numbers}
 use Rattle.curves.specs.Root.{Root, sqrt_of}
 use Rattle.curves.proofs.Patterns.{Read, pattern-read}
 use Rattle.curves.proofs.Roots.{sqrt-only}
@@ -35,9 +33,6 @@ only : (c : Then-x) (r : Float) → Root c.args.x r → r ≡ sqrt_of c.args.x
 only c r a =
     sqrt-only c.args.x r (passes _ c.well_formed.0.1) c.requires
     record { of_zero = λ z. absurd (false≢true (sym z ∙ c.if-x.true)); above_zero = λ _. a }
-
-pub float_to_bits-bits : goal.float_to_bits-bits
-float_to_bits-bits c = subst⁻¹ (λ (b : Bool). T (not b)) (le-numbers _ _ c.requires.1).0 tt
 
 pub root_of-requires : goal.root_of-requires
 root_of-requires c = ((bare (goal.at.root_of-requires c).Then-field-eq0).0, omega arith, omega arith)

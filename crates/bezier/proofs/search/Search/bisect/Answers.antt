@@ -4,8 +4,8 @@ use mathlib.Core.Bool.{true, false}
 use native.Mathlib.Omega.{arith}
 use borrow.Author.Rules.{rules}
 use Rattle.bezier.specs.Search.{solved_at, after}
-use Rattle.bezier.proofs.Steps.{counts, after_none, after_both, bisect-near, bisect-next, bisect-spent}
-use Rattle.bezier.proofs.search.bisect.Goals as goal
+use Rattle.bezier.proofs.Steps.{counts, after_both, bisect-near, bisect-next, bisect-spent}
+use Rattle.bezier.proofs.search.Search.bisect.Goals as goal
 
 pub returns-then-is_below : goal.returns-then-is_below
 returns-then-is_below c = counts (after c.args.steps c.args.steps (after c.loop-k.k 0 (after 1 0 (solved_at true c.loop-k.s.u)))) _ _
@@ -28,6 +28,3 @@ returns c = counts (after c.args.steps c.args.steps (after c.loop-k.k 0 (solved_
     (ap (after c.args.steps _) (ap (after c.loop-k.k 0) (sym (bisect-spent _ _ _ 10 _ _ _ (omega arith))) ∙ c.loop-k.invariant.1))
     (omega arith)
     (omega arith)
-
-pub loop-k-init : goal.loop-k-init
-loop-k-init c = (search rules, after_none _)

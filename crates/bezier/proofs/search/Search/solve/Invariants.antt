@@ -2,10 +2,7 @@
 use Prim.Native.Nat.{◌≤◌, ◌-◌}
 use mathlib.Core.Path.{◌≡◌}
 use Rattle.bezier.specs.Search.{after, turn_of, newton_of, solve_of}
-use Rattle.bezier.proofs.search.solve.Given as goal
+use Rattle.bezier.proofs.search.Search.solve.Given as goal
 
 abbrev pub invariant-loop-made : goal.invariant-loop-made
-invariant-loop-made l = (l.made ≤ 6) × (after l.made l.made (newton_of l.x1 l.x2 l.t (6 - l.made) (turn_of l.x1 l.x2 l.t l.u) l.u) ≡ solve_of l.x1 l.x2 l.t)
-
-abbrev pub decreases-loop-made : goal.decreases-loop-made
-decreases-loop-made l = 6 - l.made
+invariant-loop-made l = (l.made ≤ 6) × (after l.made l.made (newton_of l.self.x1 l.self.x2 l.self.t (6 - l.made) (turn_of l.self.x1 l.self.x2 l.self.t l.u) l.u) ≡ solve_of l.self.x1 l.self.x2 l.self.t)

@@ -2,10 +2,7 @@
 use Prim.Native.Nat.{◌≤◌, ◌-◌}
 use mathlib.Core.Path.{◌≡◌}
 use Rattle.bezier.specs.Search.{after, near_of, bisect_of, bisect_from}
-use Rattle.bezier.proofs.search.bisect.Given as goal
+use Rattle.bezier.proofs.search.Search.bisect.Given as goal
 
 abbrev pub invariant-loop-k : goal.invariant-loop-k
-invariant-loop-k l = (l.k ≤ 10) × (after l.k 0 (bisect_of l.x1 l.x2 l.t (10 - l.k) (near_of l.x1 l.x2 l.t l.s.u) l.s) ≡ bisect_from l.x1 l.x2 l.t l.from)
-
-abbrev pub decreases-loop-k : goal.decreases-loop-k
-decreases-loop-k l = 10 - l.k
+invariant-loop-k l = (l.k ≤ 10) × (after l.k 0 (bisect_of l.self.x1 l.self.x2 l.self.t (10 - l.k) (near_of l.self.x1 l.self.x2 l.self.t l.s.u) l.s) ≡ bisect_from l.self.x1 l.self.x2 l.self.t l.from)

@@ -1,5 +1,0 @@
--- `ease_in_bounce` meets its contract, by what `ease_out_bounce` ensures. Assumes nothing.
-use Rattle.curves.proofs.bounce.ease_in_bounce.Goals as goal
-
-pub returns : goal.returns
-returns c = simp c.ease_out_bounce.ensures

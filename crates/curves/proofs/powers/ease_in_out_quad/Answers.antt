@@ -1,6 +1,0 @@
--- `ease_in_out_quad` meets its contract, by what `square` and `by_half` ensure. Assumes nothing.
-use Rattle.std.proofs.Common.{◌∙◌}
-use Rattle.curves.proofs.powers.ease_in_out_quad.Goals as goal
-
-pub returns : goal.returns
-returns c = c.by_half.ensures ∙ rw c.square.ensures

@@ -1,5 +1,0 @@
--- `ease_out_cubic` meets its contract, by what `cube` ensures. Assumes nothing.
-use Rattle.curves.proofs.powers.ease_out_cubic.Goals as goal
-
-pub returns : goal.returns
-returns c = simp c.cube.ensures
