@@ -86,8 +86,8 @@ pub struct Filled<'a> {
     pub failed: bool,
 }
 
-// How many bytes were read, and why the last read failed if one did. How far a read brings it is known only
-// behind it.
+// How many bytes were read, and why the last read failed if one did. No for loop: only a read says how many
+// bytes it brings.
 fn read_part(file: &mut File, buffer: &mut [u8]) -> (usize, Option<Error>)
     ensures { IsPrefixLen result.0 buffer.new }
 {
