@@ -83,16 +83,16 @@ fn write(rt: &HostRuntime, text: &[u8]) {
 }
 
 fn run(rt: &HostRuntime, text: &[u8]) {
-    let Err(ScriptError { line, cause }) = script::judge(text) else {
-        write(rt, text);
-        return;
-    };
-    match cause {
-        Cause::Wrong(mistake) => wrong(rt, text, Fault { line, mistake }),
-        Cause::Refused(refusal) => refused(rt, line, refusal),
+    match script::judge(text) {
+        Ok(()) => write(rt, text),
+        Err(ScriptError { line, cause }) => match cause {
+            Cause::Wrong(mistake) => wrong(rt, text, Fault { line, mistake }),
+            Cause::Refused(refusal) => refused(rt, line, refusal),
+        },
     }
 }
 
+// What can't be printed is left out: that the last line is missing tells it.
 fn main(rt: HostRuntime) {
     if !is_called(&rt) {
         return;

@@ -28,7 +28,8 @@ impl From<Mistake> for WriteError {
 }
 
 // The buffer begins with the head. written bytes of it are the log that the writer sees, and those before
-// fresh are in the file already. records went out or will.
+// fresh are in the file already. records went out or will. The lengths stand beside the buffer since
+// `write_record`, which is C's too, takes them so, and there is no heap for a Vec.
 #[derive(Drop)]
 struct Sink<'a> {
     file: &'a mut File,

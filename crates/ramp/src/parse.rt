@@ -23,7 +23,7 @@ fn reset(tween: Tween) -> Tween
 pub fn parse_ramp(text: &[u8]) -> Result<Tween, Fault>
     ensures { IsReset result }
 {
-    let mut settings = Settings::none();
+    let mut settings = Settings::default();
     let mut lines = Lines::of(text);
     for line in &mut lines {
         settings.take(line).map_err(|mistake| Fault {

@@ -6,7 +6,7 @@ use loop_mode::Loop;
 use tween::Tween;
 
 // Those that were given.
-#[derive(Clone, Copy)]
+#[derive(Clone, Copy, Default)]
 pub struct Settings {
     start: Option<f32>,
     end: Option<f32>,
@@ -46,18 +46,6 @@ fn give<T: Drop, F: FnOnce(&mut Line<'_>) -> Result<T, Mistake>>(
 }
 
 impl Settings {
-    pub fn none() -> Settings {
-        Settings {
-            start: None,
-            end: None,
-            duration: None,
-            delay: None,
-            scale: None,
-            mode: None,
-            easing: None,
-        }
-    }
-
     // Takes the setting that a line gives, if it gives one.
     pub fn take(&mut self, mut line: Line<'_>) -> Result<(), Mistake> {
         let name = line.word();

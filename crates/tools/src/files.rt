@@ -78,15 +78,16 @@ pub fn say_argument(rt: &HostRuntime, fd: i32, i: usize) {
     say_text(fd, Plain(argument(rt, i, &mut buffer)));
 }
 
-// bytes of the buffer were filled. failed: a read failed, and not the file ended. No Result, since what was
-// read before a failure counts too.
+// What was read into a buffer. failed: a read failed, and not the file ended. No Result, since what was read
+// before a failure counts too.
 #[derive(Clone, Copy)]
-pub struct Filled {
-    pub bytes: usize,
+pub struct Filled<'a> {
+    pub bytes: &'a [u8],
     pub failed: bool,
 }
 
-// The bytes that were read, and why the last read failed if one did.
+// How many bytes were read, and why the last read failed if one did. No for loop: only a read says how many
+// bytes it brings.
 fn read_part(file: &mut File, buffer: &mut [u8]) -> (usize, Option<Error>)
     ensures { IsPrefixLen result.0 buffer.new }
 {
@@ -102,27 +103,32 @@ fn read_part(file: &mut File, buffer: &mut [u8]) -> (usize, Option<Error>)
 }
 
 // Reads until the buffer is full, the file ends or a read fails.
-pub fn fill(file: &mut File, buffer: &mut [u8]) -> Filled
-    ensures { IsPrefixLen result.bytes buffer.new }
+pub fn fill<'a>(file: &mut File, buffer: &'a mut [u8]) -> Filled<'a>
+    ensures { length result.bytes.now ≤ length buffer.old }
 {
-    let (bytes, error) = read_part(file, buffer);
+    let (n, error) = read_part(file, buffer);
     Filled {
-        bytes,
+        bytes: &buffer[..n],
         failed: error.is_some(),
     }
 }
 
 // The same, of the file that an argument names. Where a read fails standard error has a line that says why.
-pub fn fill_from(rt: &HostRuntime, file: &mut File, i: usize, buffer: &mut [u8]) -> Filled
-    ensures { IsPrefixLen result.bytes buffer.new }
+pub fn fill_from<'a>(
+    rt: &HostRuntime,
+    file: &mut File,
+    i: usize,
+    buffer: &'a mut [u8],
+) -> Filled<'a>
+    ensures { length result.bytes.now ≤ length buffer.old }
 {
-    let (bytes, error) = read_part(file, buffer);
+    let (n, error) = read_part(file, buffer);
     if let Some(e) = error {
         let mut path = io::buffer();
         say_failed(argument(rt, i, &mut path), e);
     }
     Filled {
-        bytes,
+        bytes: &buffer[..n],
         failed: error.is_some(),
     }
 }
@@ -133,17 +139,17 @@ pub fn read_text<'a>(rt: &HostRuntime, i: usize, buffer: &'a mut [u8]) -> Option
     ensures { IfSome result (λ text. length text.now ≤ length buffer.old) }
 {
     let mut file = open_argument(rt, i)?;
+    let most = buffer.len();
     let filled = fill_from(rt, &mut file, i, buffer);
     if filled.failed {
         return None;
     }
-    let n = filled.bytes;
-    if n == buffer.len() {
+    if filled.bytes.len() == most {
         say_argument(rt, STDERR_FILENO, i);
         say(STDERR_FILENO, b": the file is too long\n");
         return None;
     }
-    Some(&buffer[..n])
+    Some(filled.bytes)
 }
 
 // The length of a file, whose position goes to its start. None where it has none, as a pipe.

@@ -44,9 +44,8 @@ pub fn read_head(
     if filled.failed {
         return Err(HeadError::Unreadable);
     }
-    let n = filled.bytes;
-    if n == 0 {
+    if filled.bytes.is_empty() {
         return Err(HeadError::Empty);
     }
-    judge(&head[..n], length).map_err(HeadError::Refused)
+    judge(filled.bytes, length).map_err(HeadError::Refused)
 }
