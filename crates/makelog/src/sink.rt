@@ -2,6 +2,7 @@
 use crate::order::{Order, read_order};
 use event_log::Event;
 use lines::{Lines, Mistake};
+use refusal::Refusal;
 use std::fs::File;
 use std::io::{Error, ErrorKind, Write};
 
@@ -27,6 +28,12 @@ impl From<Mistake> for WriteError {
     }
 }
 
+impl From<Refusal> for WriteError {
+    fn from(_refusal: Refusal) -> WriteError {
+        WriteError::Failed
+    }
+}
+
 // The buffer begins with the head. written bytes of it are the log that the writer sees, and those before
 // fresh are in the file already. records went out or will. The lengths stand beside the buffer since
 // `write_record`, which is C's too, takes them so, and there is no heap for a Vec.
@@ -40,15 +47,15 @@ struct Sink<'a> {
 }
 
 impl<'a> Sink<'a> {
-    fn begin(file: &'a mut File, buffer: &'a mut [u8; 65536]) -> Sink<'a> {
-        event_log::write_head(buffer);
-        Sink {
+    fn begin(file: &'a mut File, buffer: &'a mut [u8; 65536]) -> Result<Sink<'a>, WriteError> {
+        let written = event_log::write_head(buffer)?;
+        Ok(Sink {
             file,
             buffer,
-            written: 5,
+            written,
             fresh: 0,
             records: 0,
-        }
+        })
     }
 
     // Keeps the head and the last record, so that the next one has its number.
@@ -75,14 +82,8 @@ impl<'a> Sink<'a> {
 
     // One record, behind what is there. There is room for it, or it fails.
     fn append(&mut self, event: Event) -> Result<(), WriteError> {
-        let written = self.written;
-        match event_log::write_record(self.buffer, written, event) {
-            Ok(n) => {
-                self.written = n;
-                Ok(())
-            }
-            Err(_) => Err(WriteError::Failed),
-        }
+        self.written = event_log::write_record(self.buffer, self.written, event)?;
+        Ok(())
     }
 
     fn write(&mut self, event: Event, times: u32) -> Result<(), WriteError> {
@@ -130,7 +131,7 @@ impl<'a> Sink<'a> {
 // Writes the log of a script that was judged right, and returns how many records it has.
 pub fn write_log(file: &mut File, text: &[u8]) -> Result<u64, WriteError> {
     let mut buffer = io::large_buffer();
-    let mut sink = Sink::begin(file, &mut buffer);
+    let mut sink = Sink::begin(file, &mut buffer)?;
     for line in Lines::of(text) {
         sink.obey(read_order(line)?)?;
     }
