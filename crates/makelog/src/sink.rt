@@ -82,7 +82,8 @@ impl<'a> Sink<'a> {
 
     // One record, behind what is there. There is room for it, or it fails.
     fn append(&mut self, event: Event) -> Result<(), WriteError> {
-        self.written = event_log::write_record(self.buffer, self.written, event)?;
+        let written = event_log::write_record(self.buffer, self.written, event)?;
+        self.written = written;
         Ok(())
     }
 
