@@ -82,8 +82,9 @@ impl<'a> Sink<'a> {
 
     // One record, behind what is there. There is room for it, or it fails.
     fn append(&mut self, event: Event) -> Result<(), WriteError> {
-        let written = event_log::write_record(self.buffer, self.written, event)?;
-        self.written = written;
+        let written = self.written;
+        let longer = event_log::write_record(self.buffer, written, event)?;
+        self.written = longer;
         Ok(())
     }
 
