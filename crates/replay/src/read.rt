@@ -16,8 +16,8 @@ fn taken(file: &mut File, count: usize) -> Option<Row>
     requires { count ≤ 1024 }
 {
     let mut buffer = io::buffer();
-    let bytes = &mut buffer[..4 * count];
-    if tools::fill(file, bytes).bytes != bytes.len() {
+    let bytes = tools::fill(file, &mut buffer[..4 * count]).bytes;
+    if bytes.len() != 4 * count {
         return None;
     }
     let mut list = [0u32; 1024];

@@ -36,10 +36,7 @@ fn changed(came: Row, a: Result<Tween, Rejected<Tween>>) -> Row {
 
 fn updated(came: Row, a: Result<Updated, Rejected<Tween>>) -> Row {
     match a {
-        Ok(u) => put_tween(
-            accepted().put(u.folds).put(flag_word(u.running)),
-            u.tween,
-        ),
+        Ok(u) => put_tween(accepted().put(u.folds).put(flag_word(u.running)), u.tween),
         Err(rejected) => kept(refused(rejected.refusal), tween_row(rejected.value), came),
     }
 }
