@@ -15,4 +15,4 @@ pub use answers::{
 pub use entries::{Row, float_at, is_answer, word};
 pub use given::{easing_at, loop_at, track_in, tween_in};
 pub use handed::{put_easing, put_track, put_tween, tween_row};
-pub use lists::{Word, count_word, floats_at, length_at, mark_words, marks, put_list};
+pub use lists::{AsWord, count_word, floats_at, length_at, mark_words, marks, put_list};

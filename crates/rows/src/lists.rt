@@ -39,14 +39,14 @@ pub fn floats_at(words: [u32; 1024], from: usize) -> [f32; 128]
 }
 
 // What a list holds, as words.
-pub trait Word {
+pub trait AsWord {
     ghost word: { Self → ℕ };
 
     fn word(self) -> u32
         ensures { result ≡ word self };
 }
 
-impl Word for u32 {
+impl AsWord for u32 {
     ghost word = { λ w. w };
 
     fn word(self) -> u32 {
@@ -54,7 +54,7 @@ impl Word for u32 {
     }
 }
 
-impl Word for f32 {
+impl AsWord for f32 {
     ghost word = { word_of };
 
     fn word(self) -> u32 {
@@ -62,7 +62,7 @@ impl Word for f32 {
     }
 }
 
-pub fn put_list<T: Word + Copy>(before: Row, list: &[T]) -> Row
+pub fn put_list<T: AsWord + Copy>(before: Row, list: &[T]) -> Row
     ensures { result ≡ put_all before (map T.word list.now) }
 {
     let mut p = before;

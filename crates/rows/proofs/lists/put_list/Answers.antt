@@ -15,7 +15,7 @@ loop-x-init g c = refl
 pub loop-x-preserved : goal.loop-x-preserved
 unfolding put_all
 loop-x-preserved g c =
-    let f = g.T.Word.word in
+    let f = g.T.AsWord.word in
     let x = c.x-item.result in
     let read : x ≡ get_or c.args.list.now c.loop-x.x-index x = search rules in
     rw (c.put-p.ensures, c.word.ensures, c.loop-x.invariant)
@@ -23,4 +23,4 @@ loop-x-preserved g c =
     ∙ put-more (map f) (λ x. f x ∷ []) (λ l x. map-append f l (x ∷ [])) _ c.args.list.now _ c.loop-x.x-index c.loop-x-test.true)
 
 pub returns : goal.returns
-returns g c = c.loop-x.invariant ∙ ap (λ l. put_all c.args.before (map g.T.Word.word l)) (take_all c.loop-x.x-index c.args.list.now c.loop-x-test.false)
+returns g c = c.loop-x.invariant ∙ ap (λ l. put_all c.args.before (map g.T.AsWord.word l)) (take_all c.loop-x.x-index c.args.list.now c.loop-x-test.false)

@@ -6,4 +6,4 @@ use Rattle.rows.specs.Words.{put_all}
 use Rattle.rows.proofs.lists.put_list.Given as goal
 
 abbrev pub invariant-loop-x : goal.invariant-loop-x
-invariant-loop-x g l = l.p ≡ put_all l.initial.p (map g.T.Word.word (take l.x-index l.list))
+invariant-loop-x g l = l.p ≡ put_all l.initial.p (map g.T.AsWord.word (take l.x-index l.list))
