@@ -57,8 +57,8 @@ impl Walk {
         let mut buffer = io::large_buffer();
         let filled = tools::fill_from(rt, file, 2, &mut buffer);
         self.failed = filled.failed;
-        self.hear(&buffer[..filled.bytes]);
-        filled.bytes == buffer.len()
+        self.hear(filled.bytes);
+        filled.bytes.len() == 65536
     }
 }
 

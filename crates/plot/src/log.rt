@@ -34,7 +34,7 @@ fn over_part<F: FnMut(&Course)>(rt: &HostRuntime, file: &mut File, c: &mut Cours
     if filled.failed {
         return false;
     }
-    over_records(c, &buffer[..filled.bytes], note);
+    over_records(c, filled.bytes, note);
     true
 }
 

@@ -24,19 +24,12 @@ pub struct Lists {
     pub least: u64,
 }
 
-fn last_number(last: Option<u16>) -> u16 {
-    match last {
-        Some(n) => n,
-        None => 0,
-    }
-}
-
 // A record as it is seen at a place, behind the number `last`.
 pub fn seen_at(place: u64, bytes: [u8; 8], last: Option<u16>, gap: u16, folds: u64) -> Seen {
     Seen {
         place,
         gap,
-        last: last_number(last),
+        last: last.unwrap_or(0),
         number: reader::number_in(bytes),
         folds,
         step: reader::step_in(bytes),
