@@ -10,7 +10,9 @@ use std::io::{Error, ErrorKind, Read, Seek, SeekFrom};
 use std::rt::{Env, HostRuntime};
 
 // An argument, put into a buffer; nothing where it is missing or too long.
-pub fn argument<'a>(rt: &HostRuntime, i: usize, buffer: &'a mut [u8]) -> &'a [u8] {
+pub fn argument<'a>(rt: &HostRuntime, i: usize, buffer: &'a mut [u8]) -> &'a [u8]
+    ensures { length result.now ≤ length buffer.old }
+{
     match rt.arg(i, buffer) {
         Ok(n) => &buffer[..n],
         Err(_) => &[],
