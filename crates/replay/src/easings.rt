@@ -1,16 +1,13 @@
 // The calls of an easing.
 use crate::call::EasingCall;
 use easing::Easing;
-use rows::{
-    Row, accepted, easing_at, equality_row, flag_row, float_at, put_easing, unknown, value_row,
-    word,
-};
+use rows::{Row, accepted, answer_row, easing_at, flag_row, float_at, put_easing, unknown, word};
 use units::Progress;
 use words::{LaxEasing, easing_of, easing_words};
 
 fn eq(x: Easing, w: LaxEasing) -> Row {
     match easing_of(w) {
-        Some(y) => equality_row(x.eq(y)),
+        Some(y) => answer_row(x.eq(y)),
         None => unknown(),
     }
 }
@@ -20,7 +17,7 @@ pub fn answer(call: EasingCall, words: [u32; 1024]) -> Row {
         return unknown();
     };
     match call {
-        EasingCall::Apply => value_row(e.apply(Progress(float_at(words, 6)))),
+        EasingCall::Apply => answer_row(e.apply(Progress(float_at(words, 6)))),
         EasingCall::Eq => eq(e, easing_at(words, 6)),
         EasingCall::IsSupplied => flag_row(e.is_supplied()),
     }

@@ -3,9 +3,8 @@ use crate::call::TrackCall;
 use keyframe::{Track, Updated};
 use refusal::{Refusal, Rejected};
 use rows::{
-    Row, accepted, completion_row, count_word, easing_at, flag_row, float_at, floats_at, kept,
-    length_at, loop_at, marks, progress_row, put_list, put_track, refused, seconds_row, unknown,
-    value_row,
+    Row, accepted, answer_row, count_word, easing_at, flag_row, float_at, floats_at, kept,
+    length_at, loop_at, marks, put_list, put_track, refused, unknown,
 };
 use units::{Progress, Seconds};
 use words::{LaxTrack, easing_of, is_known, loop_of, track_of};
@@ -73,15 +72,15 @@ fn known(call: TrackCall, w: LaxTrack, words: [u32; 1024]) -> Row {
         TrackCall::Push => changed(w, t.push(x, y)),
         TrackCall::PushEased => push_eased(w, words),
         TrackCall::Looping => looping(w, words),
-        TrackCall::ValueAt => value_row(t.value_at(Seconds(x))),
-        TrackCall::Value => value_row(t.value()),
+        TrackCall::ValueAt => answer_row(t.value_at(Seconds(x))),
+        TrackCall::Value => answer_row(t.value()),
         TrackCall::ValuesAt => values_at(t, words),
         TrackCall::Update => updated(w, t.update(x)),
-        TrackCall::ActiveTime => seconds_row(t.active_time()),
-        TrackCall::Duration => seconds_row(t.duration()),
-        TrackCall::PlaybackDuration => seconds_row(t.playback_duration()),
-        TrackCall::Progress => progress_row(t.progress()),
-        TrackCall::IsComplete => completion_row(t.is_complete()),
+        TrackCall::ActiveTime => answer_row(t.active_time()),
+        TrackCall::Duration => answer_row(t.duration()),
+        TrackCall::PlaybackDuration => answer_row(t.playback_duration()),
+        TrackCall::Progress => answer_row(t.progress()),
+        TrackCall::IsComplete => answer_row(t.is_complete()),
         TrackCall::Reset => changed(w, t.reset()),
         TrackCall::SeekTo => changed(w, t.seek_to(Progress(x))),
     }

@@ -2,8 +2,8 @@
 use crate::call::TweenCall;
 use refusal::{Refusal, Rejected};
 use rows::{
-    Row, accepted, count_word, float_at, floats_at, kept, length_at, mark_words, marks,
-    progress_row, put_list, put_tween, refused, seconds_row, tween_row, unknown, value_row,
+    Row, accepted, answer_row, count_word, float_at, floats_at, kept, length_at, mark_words, marks,
+    put_list, put_tween, refused, tween_row, unknown,
 };
 use steps::{Run, run_steps};
 use tween::{Tween, TweenSnapshot, Updated};
@@ -80,11 +80,11 @@ fn run(t: Tween, words: [u32; 1024]) -> Row {
 fn known(call: TweenCall, t: Tween, words: [u32; 1024]) -> Row {
     let x = float_at(words, 0);
     match call {
-        TweenCall::Value => value_row(t.value()),
-        TweenCall::Progress => progress_row(t.progress()),
-        TweenCall::EasedProgress => value_row(t.eased_progress()),
+        TweenCall::Value => answer_row(t.value()),
+        TweenCall::Progress => answer_row(t.progress()),
+        TweenCall::EasedProgress => answer_row(t.eased_progress()),
         TweenCall::Snapshot => snapped(t.snapshot()),
-        TweenCall::PlaybackDuration => seconds_row(t.playback_duration()),
+        TweenCall::PlaybackDuration => answer_row(t.playback_duration()),
         TweenCall::Reset => changed(tween_row(t), t.reset()),
         TweenCall::Seek => changed(tween_row(t), t.seek(Progress(x))),
         TweenCall::Reverse => changed(tween_row(t), t.reverse()),

@@ -25,22 +25,25 @@ flag_words b = 0 ∷ flag_word b ∷ []
 abbrev pub float_words : Float → List ℕ
 float_words x = 0 ∷ word_of x ∷ []
 
+abbrev pub found_words : Found → List ℕ
+found_words f = float_words f.value
+
+-- the words of an answer, by those of what an accepted call answers
+abbrev pub answer_words : {A : Type 0} → (A → List ℕ) → Result A Refusal → List ℕ
+answer_words words (Ok answer) = words answer
+answer_words words (Err refusal) = refused_words refusal
+
 abbrev pub value_words : Result Found Refusal → List ℕ
-value_words (Ok f) = float_words f.value
-value_words (Err refusal) = refused_words refusal
+value_words a = answer_words found_words a
 
 abbrev pub seconds_words : Result Seconds Refusal → List ℕ
-seconds_words (Ok s) = float_words s.0
-seconds_words (Err refusal) = refused_words refusal
+seconds_words a = answer_words (λ (s : Seconds). float_words s.0) a
 
 abbrev pub progress_words : Result Progress Refusal → List ℕ
-progress_words (Ok p) = float_words p.0
-progress_words (Err refusal) = refused_words refusal
+progress_words a = answer_words (λ (p : Progress). float_words p.0) a
 
 abbrev pub equality_words : Result Bool Refusal → List ℕ
-equality_words (Ok b) = flag_words b
-equality_words (Err refusal) = refused_words refusal
+equality_words a = answer_words flag_words a
 
 abbrev pub completion_words : Result Bool Refusal → List ℕ
-completion_words (Ok b) = flag_words b
-completion_words (Err refusal) = refused_words refusal
+completion_words a = answer_words flag_words a

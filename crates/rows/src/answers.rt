@@ -1,7 +1,7 @@
 // The library's answers as words of the list. A refused call answers its number.
-ghost use Rattle.std.specs.Prelude.{◌≡◌};
+ghost use Rattle.std.specs.Prelude.{◌≡◌, ℕ, List};
 ghost use Rattle.rows.specs.Words.{put_of, row_of};
-ghost use Rattle.rows.specs.Answers.{unknown_words, refused_words, accepted_words, flag_words, float_words, value_words, seconds_words, progress_words, equality_words, completion_words};
+ghost use Rattle.rows.specs.Answers.{unknown_words, refused_words, accepted_words, flag_words, float_words, found_words, answer_words};
 
 use crate::entries::Row;
 use bezier::Found;
@@ -46,47 +46,51 @@ fn float_row(x: f32) -> Row
     accepted().put_float(x)
 }
 
-pub fn value_row(a: Result<Found, Refusal>) -> Row
-    ensures { result ≡ row_of (value_words a) }
-{
-    match a {
-        Ok(found) => float_row(found.value),
-        Err(refusal) => refused(refusal),
+// What an accepted call answers.
+pub trait Answer {
+    ghost words: { Self → List ℕ };
+
+    fn row(self) -> Row
+        ensures { result ≡ row_of (words self) };
+}
+
+impl Answer for Found {
+    ghost words = { found_words };
+
+    fn row(self) -> Row {
+        float_row(self.value)
     }
 }
 
-pub fn seconds_row(a: Result<Seconds, Refusal>) -> Row
-    ensures { result ≡ row_of (seconds_words a) }
-{
-    match a {
-        Ok(s) => float_row(s.0),
-        Err(refusal) => refused(refusal),
+impl Answer for Seconds {
+    ghost words = { λ s. float_words s.0 };
+
+    fn row(self) -> Row {
+        float_row(self.0)
     }
 }
 
-pub fn progress_row(a: Result<Progress, Refusal>) -> Row
-    ensures { result ≡ row_of (progress_words a) }
-{
-    match a {
-        Ok(p) => float_row(p.0),
-        Err(refusal) => refused(refusal),
+impl Answer for Progress {
+    ghost words = { λ p. float_words p.0 };
+
+    fn row(self) -> Row {
+        float_row(self.0)
     }
 }
 
-pub fn equality_row(a: Result<bool, Refusal>) -> Row
-    ensures { result ≡ row_of (equality_words a) }
-{
-    match a {
-        Ok(b) => flag_row(b),
-        Err(refusal) => refused(refusal),
+impl Answer for bool {
+    ghost words = { flag_words };
+
+    fn row(self) -> Row {
+        flag_row(self)
     }
 }
 
-pub fn completion_row(a: Result<bool, Refusal>) -> Row
-    ensures { result ≡ row_of (completion_words a) }
+pub fn answer_row<T: Answer + Copy>(a: Result<T, Refusal>) -> Row
+    ensures { result ≡ row_of (answer_words T.words a) }
 {
     match a {
-        Ok(b) => flag_row(b),
+        Ok(answer) => answer.row(),
         Err(refusal) => refused(refusal),
     }
 }

@@ -8,10 +8,7 @@ mod given;
 mod handed;
 mod lists;
 
-pub use answers::{
-    accepted, completion_row, equality_row, flag_row, kept, progress_row, refused, seconds_row,
-    unknown, value_row,
-};
+pub use answers::{Answer, accepted, answer_row, flag_row, kept, refused, unknown};
 pub use entries::{Row, float_at, is_answer, word};
 pub use given::{easing_at, loop_at, track_in, tween_in};
 pub use handed::{put_easing, put_track, put_tween, tween_row};
