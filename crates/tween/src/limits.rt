@@ -9,9 +9,7 @@ fn idle_below(state: TweenState, waited: f32, delay: f32) -> bool
 {
     match state {
         TweenState::Idle => waited < delay,
-        TweenState::Running => true,
-        TweenState::Paused => true,
-        TweenState::Completed => true,
+        TweenState::Running | TweenState::Paused | TweenState::Completed => true,
     }
 }
 

@@ -133,14 +133,11 @@ fn finish(t: Tween, begun: Begun) -> Result<Updated, Rejected<Tween>>
         }),
         Begun::Lost => Err(Rejected::new(t, Refusal::StepLost)),
         Begun::Waits(waited) => {
-            let now = TweenSnapshot {
-                elapsed: t.elapsed,
+            let next = Tween {
                 delay_elapsed: waited,
-                loop_count: t.loop_count,
-                ping_pong_reverse: t.ping_pong_reverse,
                 state: TweenState::Idle,
+                ..t
             };
-            let next = with_ends(t, t.start, t.end, now);
             Ok(Updated {
                 tween: next,
                 folds: 0,
