@@ -13,6 +13,7 @@ fn idle_below(state: TweenState, waited: f32, delay: f32) -> bool
     }
 }
 
+#[tactic(auto, unfolding(crate::specs::Limits::settings_within))]
 fn settings_within(t: Tween) -> bool
     ensures { result ≡ settings_within t }
 {
@@ -27,6 +28,7 @@ fn settings_within(t: Tween) -> bool
         & easing.fits_record()
 }
 
+#[tactic(auto, unfolding(crate::specs::Limits::clock_within))]
 fn clock_within(t: Tween) -> bool
     ensures { result ≡ clock_within t }
 {
@@ -36,6 +38,7 @@ fn clock_within(t: Tween) -> bool
         & idle_below(state, t.delay_elapsed, t.delay)
 }
 
+#[tactic(auto, unfolding(crate::specs::Limits::within_of))]
 pub fn within(t: Tween) -> bool
     ensures { result ≡ within_of t }
 {
