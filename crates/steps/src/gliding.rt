@@ -30,8 +30,7 @@ pub fn glide_on(
     let easing = first.easing;
     let mut t = first;
     let mut unsettled = before;
-    let mut i = from;
-    while i < steps.len() {
+    for i in from..steps.len() {
         let Some(glided) = glide(t, steps[i]) else {
             return Stretch {
                 tween: t,
@@ -44,11 +43,10 @@ pub fn glide_on(
         values[i] = found.value;
         folds[i] = glided.folding.folds;
         unsettled += !found.settled as usize;
-        i += 1;
     }
     Stretch {
         tween: t,
-        next: i,
+        next: steps.len(),
         unsettled,
     }
 }

@@ -1,7 +1,8 @@
--- `glide_on` meets its contract. The invariant: the run has gone on to step i. The measure is the steps that are left. Assumes nothing.
+-- `glide_on` meets its contract. The invariant: the run has gone on to step i. Assumes nothing.
 use native.Mathlib.Omega.{arith}
 use mathlib.Core.Bool.{not}
-use mathlib.Core.Path.{refl, subst}
+use mathlib.Core.Path.{◌≡◌, refl, subst}
+use lib.ListN.{length}
 use Rattle.math.proofs.Tallies.{byte-below}
 use Rattle.tween.specs.Inner.{Glides}
 use Rattle.tween.proofs.Glides.{glide-within}
@@ -47,4 +48,5 @@ pub shape_of-folds : goal.shape_of-folds
 shape_of-folds c = c.loop-i.invariant.0.folds-long
 
 pub returns : goal.returns
-returns c = let o = c.loop-i.invariant.0 in (o.later, o.reaches)
+returns c = let o = c.loop-i.invariant.0 in let e : c.loop-i.i ≡ length c.args.steps.now = omega (arith, o.few) in
+    (rw e at o.later, rw e at o.reaches)
