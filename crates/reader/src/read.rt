@@ -75,6 +75,7 @@ fn read_all(first: Replay, records: &[u8], gaps: &mut [u16]) -> Replayed
     let mut folds = first.folds;
     let mut sure = within(t);
     let mut i: usize = 0;
+    // No `for`: its turns join the two ways of a record, and the proof over the join did not close.
     while i < records.len() / 8 {
         let bytes = record_at(records, i);
         match skim(t, last, sure, bytes) {
