@@ -7,7 +7,8 @@ use crate::params::{equal, params_of, within};
 use refusal::Refusal;
 
 impl Easing {
-    // The same kind with equal parameters; -0 equals 0. Refused for either side: 2, then 3.
+    // The same kind with equal parameters; -0 equals 0. Refused for either side: 2, then 3, as `eq_of` has
+    // it: PartialEq could refuse nothing.
     pub fn eq(self, other: Easing) -> Result<bool, Refusal>
         ensures { result ≡ eq_of self other }
     {

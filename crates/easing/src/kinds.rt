@@ -53,7 +53,7 @@ pub enum Easing {
 pub const KINDS: u32 = 38;
 
 impl Easing {
-    // The kind's place in `all_named`, from 0.
+    // The kind's place in `all_named`, from 0. A match: kinds with parameters have no `as u32`.
     pub fn kind_number(self) -> u32
         ensures { result ≡ number_of self }
     {

@@ -64,7 +64,8 @@ pub fn within(p: Params) -> bool
         & (p.count <= 65536)
 }
 
-// As numbers: -0 equals 0. least is the kind's, and no parameter.
+// As numbers: -0 equals 0. least is the kind's, and no parameter: `equal_of` leaves it out, where a derived
+// PartialEq would compare it.
 pub fn equal(p: Params, q: Params) -> bool
     ensures { result ≡ equal_of p q }
 {
@@ -72,7 +73,8 @@ pub fn equal(p: Params, q: Params) -> bool
 }
 
 impl Easing {
-    // The kind with this number, with these parameters; Linear for a number of none.
+    // The kind with this number, with these parameters; Linear for a number of none. A match and no place
+    // in `all_named`: the seven kinds with parameters would need a match of their own behind it.
     pub fn of_number(kind: u32, p: Params) -> Easing
         ensures { result ≡ of_number kind p }
     {

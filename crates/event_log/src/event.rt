@@ -12,6 +12,7 @@ pub enum Event {
 }
 
 impl Event {
+    // The format's byte.
     fn kind(self) -> u8
         ensures { result ≡ kind_of self }
     {
@@ -29,9 +30,7 @@ impl Event {
     {
         match self {
             Event::Step(x) => x,
-            Event::Pause => 0.0,
-            Event::Resume => 0.0,
-            Event::Reset => 0.0,
+            Event::Pause | Event::Resume | Event::Reset => 0.0,
         }
     }
 }

@@ -5,17 +5,14 @@ ghost use Rattle.event_log.specs.Format.{mark, version, starts_with};
 pub fn has_mark(log: &[u8]) -> bool
     ensures { result ≡ starts_with mark log.now }
 {
-    if log.len() < 3 {
-        return false;
-    }
-    (log[0] == b'P') & (log[1] == b'E') & (log[2] == b'L')
+    log.starts_with(b"PEL")
 }
 
 pub fn has_version(log: &[u8]) -> bool
     ensures { result ≡ starts_with version (drop 3 log.now) }
 {
-    if log.len() < 5 {
+    if log.len() < 3 {
         return false;
     }
-    (log[3] == 1) & (log[4] == 0)
+    log[3..].starts_with(&[1, 0])
 }

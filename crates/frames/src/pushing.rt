@@ -1,21 +1,20 @@
 // One more frame among n frames.
-ghost use Rattle.std.specs.Prelude.{◌≡◌, ◌≤◌, ◌<◌, take};
+ghost use Rattle.std.specs.Prelude.{◌≡◌, ◌≤◌, ◌<◌, length, take};
 ghost use Rattle.frames.specs.Pushing.{put_of};
 ghost use Rattle.frames.specs.Inner.{earlier_of, insert_of};
 
 use crate::frame::{Keyframe, Put};
 
-// How many of the first n frames, from the front, are before the time.
-fn earlier(frames: [Keyframe; 64], n: usize, time: f32) -> usize
-    requires { n ≤ 64 }
-    ensures { (result ≤ n) × (result ≡ earlier_of time (take n frames)) }
+// How many, from the front, are before the time.
+fn earlier(frames: &[Keyframe], time: f32) -> usize
+    ensures { (result ≤ length frames.now) × (result ≡ earlier_of time frames.now) }
 {
-    for i in 0..n {
+    for i in 0..frames.len() {
         if !(frames[i].time < time) {
             return i;
         }
     }
-    n
+    frames.len()
 }
 
 // Of n frames, those from p on go one place up, and k goes to p.
@@ -38,7 +37,7 @@ pub fn put(frames: [Keyframe; 64], n: usize, k: Keyframe) -> Option<Put>
     requires { n ≤ 64 }
     ensures { result ≡ put_of frames n k }
 {
-    let p = earlier(frames, n, k.time);
+    let p = earlier(&frames[..n], k.time);
     if p < n {
         if frames[p].time == k.time {
             let mut g = frames;

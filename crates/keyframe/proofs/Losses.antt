@@ -15,7 +15,6 @@ use Rattle.keyframe.specs.Limits.{base_of, end_of, within_of}
 use Rattle.keyframe.specs.Playback.{done_of}
 use Rattle.keyframe.specs.Stepping.{ran, lost_of, advance_of, update_of}
 use Rattle.keyframe.specs.Losses.{UpdateSixExactly, StillLost, WholeKept}
-use Rattle.refusal.specs.declared.Refusal.{Refusal}
 use Rattle.refusal.specs.Refusing.{rejected}
 use Rattle.refusal.specs.declared.rejected.Rejected.{Rejected}
 

@@ -1,6 +1,6 @@
 -- What a track promises: ascending times, finite values, the value that was pushed, the ends, and what `running` says. Assumes nothing.
 use Rattle.std.specs.Prelude.{Err, None, Ok, Option, Some}
-use Rattle.std.proofs.Common.{◌≡◌, ℕ, ◌<◌, Bool, true, false, cond, not, ◌||◌, T, eqb, ltb, leb, List, ◌++◌, length, get_or, take, drop, sym, refl, ap, ◌∙◌, subst, arith, take_at, Result}
+use Rattle.std.proofs.Common.{◌≡◌, ℕ, ◌<◌, Bool, true, false, cond, not, ◌||◌, T, eqb, ltb, leb, List, ◌++◌, length, get_or, take, drop, sym, refl, ap, subst, take_at, Result}
 use mathlib.Core.Path.{subst⁻¹}
 use mathlib.Core.Bool.{or-true}
 use lib.Ieee.{Float, binary32, fits, lt, le, eq, of_bits}
@@ -8,8 +8,6 @@ use Rattle.math.specs.Rounded.{◌⊕◌, zero_f, top_f}
 use Rattle.math.specs.Range.{max_zero_of}
 use Rattle.math.proofs.Choice.{by-test}
 use Rattle.math.proofs.Order.{equal-le, not-lt-of-le}
-use Rattle.refusal.specs.declared.Refusal.{Refusal}
-use Rattle.refusal.specs.declared.Refusal.TheVariants.{ElapsedTooLong, TrackFull}
 use Rattle.bezier.specs.declared.types.Found.{Found}
 use Rattle.frames.specs.declared.frame.Keyframe.{Keyframe}
 use Rattle.frames.specs.declared.frame.Put.{Put}
@@ -24,7 +22,7 @@ use Rattle.keyframe.specs.declared.types.Track.{Track}
 use Rattle.keyframe.specs.declared.types.Updated.{Updated}
 use Rattle.keyframe.specs.Limits.{frames_in, base_of, end_of, Fine}
 use Rattle.keyframe.specs.Playback.{done_of}
-use Rattle.keyframe.specs.Stepping.{moved_of, ran, final_of, passes_made, advance_of, update_of}
+use Rattle.keyframe.specs.Stepping.{moved_of, passes_made, advance_of}
 use Rattle.keyframe.specs.Pushing.{stored_of, placed_of, push_of, left_by}
 use Rattle.keyframe.specs.Promises.{Ascending, PushSampled, SampleReal, AtFirst, AtLast, Running}
 use Rattle.keyframe.proofs.Records.{frames-fine}

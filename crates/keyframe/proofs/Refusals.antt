@@ -13,16 +13,15 @@ use Rattle.easing.specs.Kinds.{supplied_of}
 use Rattle.easing.specs.Params as params
 use Rattle.loop_mode.specs.declared.Loop.{Loop}
 use Rattle.frames.specs.declared.frame.Keyframe.{Keyframe}
-use Rattle.frames.specs.declared.frame.Put.{Put}
 use Rattle.frames.specs.Pushing.{put_of}
 use Rattle.frames.specs.Sampling.{sample_of}
 use Rattle.keyframe.specs.declared.types.Track.{Track}
 use Rattle.keyframe.specs.Limits.{base_of, end_of, frames_in, mode_fits, within_of}
-use Rattle.keyframe.specs.Pushing.{stored_of, takes_of, with_frames, with_mode, placed_of, push_of, looping_of}
+use Rattle.keyframe.specs.Pushing.{stored_of, takes_of, with_mode, placed_of, push_of, looping_of}
 use Rattle.keyframe.specs.Sampling.{value_at_of}
 use Rattle.keyframe.specs.Batch.{batch_number}
 use Rattle.keyframe.specs.Stepping.{sought_of, seek_to_of}
-use Rattle.keyframe.specs.Inner.{takes_at, push_outcome, room_outcome, looping_outcome, sample_outcome, fill_outcome, seek_outcome}
+use Rattle.keyframe.specs.Inner.{takes_at, push_outcome, looping_outcome, sample_outcome, fill_outcome, seek_outcome}
 use Rattle.refusal.specs.declared.rejected.Rejected.{Rejected}
 use Rattle.refusal.specs.Refusing.{rejected, done}
 

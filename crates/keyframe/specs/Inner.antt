@@ -1,5 +1,5 @@
 -- Why a call on a track within its limits is refused, by the parts that count, as the definitions of the calls have it; proofs/Refusals ties the two. `last` is the last time.
-use Rattle.std.specs.Prelude.{ℕ, Bool, ◌&&◌, is_nan, nat_le, nat_lt, Float, Err, Ok, Result, ⊤}
+use Rattle.std.specs.Prelude.{ℕ, Bool, ◌&&◌, is_nan, nat_le, nat_lt, Float, Err, Result, ⊤}
 use Rattle.math.specs.Range.{is_value}
 use Rattle.refusal.specs.declared.Refusal.TheVariants.{ProgressIsNan, EasingNotSupplied, EasingParameter, TrackFull, NoFrames, TrackLimit, OutputTooShort}
 use Rattle.refusal.specs.Refusing.{unless, when, done}

@@ -3,9 +3,8 @@ use Rattle.std.specs.Prelude.{ℕ, Bool, false, cond, ◌&&◌, List, replicate,
 use Rattle.std.specs.Float.Ieee.{lt, eq}
 use Rattle.math.specs.Rounded.{zero_f}
 use Rattle.math.specs.Range.{is_value}
-use Rattle.refusal.specs.declared.Refusal.{Refusal}
 use Rattle.refusal.specs.declared.Refusal.TheVariants.{RecordBreaksLimit, EasingNotSupplied, EasingParameter, TrackLimit, TrackFull}
-use Rattle.refusal.specs.Refusing.{unless, when, rejected}
+use Rattle.refusal.specs.Refusing.{unless, rejected}
 use Rattle.easing.specs.Kinds.{supplied_of}
 use Rattle.easing.specs.Params as params
 use Rattle.loop_mode.specs.declared.Loop.{Loop}

@@ -5,7 +5,6 @@ use Rattle.math.specs.Rounded.{◌⊕◌, ◌⊗◌, ◌⊘◌, zero_f, one_f, t
 use Rattle.math.specs.Range.{clamp01_of, max_zero_of}
 use Rattle.math.specs.Lost.{lost_by}
 use Rattle.math.specs.Whole.{whole_part_of}
-use Rattle.refusal.specs.declared.Refusal.{Refusal}
 use Rattle.refusal.specs.declared.Refusal.TheVariants.{ProgressIsNan, RecordBreaksLimit, StepTooLong, StepLost, ElapsedTooLong}
 use Rattle.refusal.specs.Refusing.{unless, when, rejected}
 use Rattle.loop_mode.specs.declared.Loop.{Loop}

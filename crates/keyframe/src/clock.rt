@@ -3,7 +3,7 @@
 ghost use Rattle.std.specs.Prelude.{◌≡◌};
 ghost use Rattle.keyframe.specs.Limits.{end_of};
 ghost use Rattle.keyframe.specs.Playback.{playback_of};
-ghost use Rattle.keyframe.specs.Stepping.{final_of, has_end, lost_of, span_in};
+ghost use Rattle.keyframe.specs.Stepping.{final_of, lost_of};
 ghost use Rattle.keyframe.specs.Clock.{active_at, clock_of, progress_at, seek_of, tick_of, tick_to, ticked_at};
 
 use crate::limits::end_of;
@@ -31,15 +31,13 @@ fn is_lost(elapsed: f32, step: f32) -> bool
 }
 
 // loop_count on completion: the passes, but for Once, which keeps the count that it has.
+#[tactic(auto, unfolding(crate::specs::Stepping::final_of))]
 fn final_count(looping: Loop, count: u32) -> u32
     ensures { result ≡ final_of looping count }
 {
     match looping {
-        Loop::Once => count,
-        Loop::Times(n) => loop_mode::passes(n),
-        Loop::Forever => count,
-        Loop::PingPong => count,
-        Loop::PingPongTimes(n) => loop_mode::passes(n),
+        Loop::Times(n) | Loop::PingPongTimes(n) => loop_mode::passes(n),
+        Loop::Once | Loop::Forever | Loop::PingPong => count,
     }
 }
 
@@ -100,40 +98,23 @@ pub fn tick(
     advance(looping, base, clock.elapsed + step)
 }
 
-// What a progress of 1 stands for.
-fn span_in(end: Option<f32>, base: f32) -> f32
-    ensures { result ≡ span_in end base }
-{
-    match end {
-        Some(total) => total,
-        None => base,
-    }
-}
-
-fn has_end(end: Option<f32>) -> bool
-    ensures { result ≡ has_end end }
-{
-    match end {
-        Some(_) => true,
-        None => false,
-    }
-}
-
 // At a progress p.
 pub fn seek(looping: Loop, base: f32, p: f32) -> Clock
     ensures { result ≡ seek_of (end_of looping base) base p }
 {
     let end = end_of(looping, base);
-    let span = span_in(end, base);
+    // What a progress of 1 stands for.
+    let span = end.unwrap_or(base);
     if span == 0.0 {
         return Clock::new(0.0, 0, true);
     }
     let elapsed = span * p;
     let count = math::whole_part(elapsed / frames::span_of(base));
-    Clock::new(elapsed, count, has_end(end) & (1.0 <= p))
+    Clock::new(elapsed, count, end.is_some() & (1.0 <= p))
 }
 
-// The time within a pass.
+// The time within a pass. Four parameters and no struct of them: each caller has them apart, in a track
+// or in words, and would build one for a single call.
 pub fn active_at(looping: Loop, complete: bool, elapsed: f32, base: f32) -> f32
     ensures { result ≡ active_at looping complete elapsed base }
 {

@@ -12,15 +12,14 @@ fn over_passes(base: f32, n: u32) -> f32
 }
 
 // Where playback ends whose one pass takes `base` seconds.
+#[tactic(auto, unfolding(crate::specs::Limits::end_of))]
 pub fn end_of(looping: Loop, base: f32) -> Option<f32>
     ensures { result ≡ end_of looping base }
 {
     match looping {
         Loop::Once => Some(base),
-        Loop::Times(n) => Some(over_passes(base, n)),
-        Loop::Forever => None,
-        Loop::PingPong => None,
-        Loop::PingPongTimes(n) => Some(over_passes(base, n)),
+        Loop::Times(n) | Loop::PingPongTimes(n) => Some(over_passes(base, n)),
+        Loop::Forever | Loop::PingPong => None,
     }
 }
 

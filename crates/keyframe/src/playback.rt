@@ -19,6 +19,7 @@ fn bounce(cycle: f32, base: f32) -> f32
 }
 
 // The time within a pass that takes `base` seconds.
+#[tactic(auto, unfolding(crate::specs::Playback::phase_of))]
 pub fn phase(looping: Loop, complete: bool, elapsed: f32, base: f32) -> f32
     ensures { result ≡ phase_of looping complete elapsed base }
 {
@@ -31,8 +32,9 @@ pub fn phase(looping: Loop, complete: bool, elapsed: f32, base: f32) -> f32
             math::remainder(elapsed, base)
         }
         Loop::Forever => math::remainder(elapsed, base),
-        Loop::PingPong => bounce(math::remainder(elapsed, base * 2.0), base),
-        Loop::PingPongTimes(_) => bounce(math::remainder(elapsed, base * 2.0), base),
+        Loop::PingPong | Loop::PingPongTimes(_) => {
+            bounce(math::remainder(elapsed, base * 2.0), base)
+        }
     }
 }
 

@@ -37,7 +37,8 @@ pub struct Updated {
 }
 
 // filled is how many places at the front of a lent output were written; unsettled, how many of them
-// hold a value that was not settled. refusal is the number, 0 for none.
+// hold a value that was not settled. refusal is the number, 0 for none: `batch_answer` keeps document 01's
+// words for a batch, "The refusal number, 0 for none".
 #[derive(Clone, Copy)]
 pub struct Filled {
     pub filled: usize,

@@ -23,33 +23,30 @@ const MOST_PASSES: u32 = 65535;
 pub fn passes(n: u32) -> u32
     ensures { result ≡ passes_of n }
 {
-    if n == 0 { 1 } else { n }
+    n.max(1)
 }
 
 impl Loop {
     // How many passes there are before the end.
+    #[tactic(auto, unfolding(crate::specs::Passes::limit_of))]
     pub fn pass_limit(self) -> Option<u32>
         ensures { result ≡ limit_of self }
     {
         match self {
             Loop::Once => Some(1),
-            Loop::Times(n) => Some(passes(n)),
-            Loop::Forever => None,
-            Loop::PingPong => None,
-            Loop::PingPongTimes(n) => Some(passes(n)),
+            Loop::Times(n) | Loop::PingPongTimes(n) => Some(passes(n)),
+            Loop::Forever | Loop::PingPong => None,
         }
     }
 
     // Whether a pass number is within its limit.
+    #[tactic(auto, unfolding(crate::specs::Passes::within_of))]
     pub fn is_within_limits(self) -> bool
         ensures { result ≡ within_of self }
     {
         match self {
-            Loop::Once => true,
-            Loop::Times(n) => n <= MOST_PASSES,
-            Loop::Forever => true,
-            Loop::PingPong => true,
-            Loop::PingPongTimes(n) => n <= MOST_PASSES,
+            Loop::Times(n) | Loop::PingPongTimes(n) => n <= MOST_PASSES,
+            Loop::Once | Loop::Forever | Loop::PingPong => true,
         }
     }
 }

@@ -25,7 +25,6 @@ use Rattle.reader.specs.Reading.{Reading, stopped, followed, reading_of, read_on
 use Rattle.reader.specs.Promises.{event_of, without_repeats, ReplayDemand3}
 use Rattle.reader.proofs.Heard.{is_done}
 use Rattle.refusal.specs.declared.rejected.Rejected.{Rejected}
-use Rattle.refusal.specs.Refusing.{rejected}
 
 -- what a call came to
 tween_in : Tween → Result Played Refusal → Tween

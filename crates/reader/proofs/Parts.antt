@@ -6,7 +6,7 @@ use Rattle.math.specs.Lists.{split}
 use Rattle.math.proofs.Parts.{split-append}
 use Rattle.refusal.specs.declared.Refusal.{Refusal}
 use Rattle.refusal.specs.declared.Refusal.TheVariants.{RecordBreaksLimit, WrongMark, UnknownVersion}
-use Rattle.refusal.specs.Refusing.{unless, done}
+use Rattle.refusal.specs.Refusing.{unless}
 use Rattle.tween.specs.Limits.{within_of}
 use Rattle.event_log.specs.Format.{mark, version, starts_with}
 use Rattle.reader.specs.declared.hear.Replay.{Replay}

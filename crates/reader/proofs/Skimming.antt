@@ -2,7 +2,7 @@
 use Rattle.std.specs.Prelude.{None, Option}
 use Rattle.std.proofs.Common.{◌≡◌, ℕ, false, List, sym, refl, ap, Some}
 use lib.Ieee.{Float}
-use Rattle.folds.specs.declared.Folding.{Folding}
+use Rattle.tween.specs.declared.update.Glided.{Glided}
 use Rattle.tween.specs.declared.record.Tween.{Tween}
 use Rattle.tween.specs.Inner.{Glides}
 use Rattle.tween.proofs.Glides.{goes_to, glide-within}
@@ -15,9 +15,9 @@ use Rattle.reader.specs.Hearing.{gap_of, by_update, played_of}
 use Rattle.reader.specs.Inner.{SkimsStep, Skims}
 use Rattle.reader.proofs.Heard.{hears-played}
 
-pub skims-step : (t : Tween) (n g : ℕ) (x w : Float) (p : Folding) → Glides t x (Some (record { waited = w; folding = p })) → SkimsStep t n g (Step x) (Some (record { number = n; gap = g; waited = w; folding = p }))
+pub skims-step : (t : Tween) (n g : ℕ) (x : Float) (s : Glided) → Glides t x (Some s) → SkimsStep t n g (Step x) (Some (record { number = n; gap = g; glided = s }))
 unfolding played_of
-skims-step t n g x w p h = (refl, refl, ap by_update (goes_to t x w p h), glide-within t x w p h)
+skims-step t n g x s h = (refl, refl, ap by_update (goes_to t x s h), glide-within t x s h)
 
 pub skims : (t : Tween) (last : Option ℕ) (bytes : List ℕ) (n g : ℕ) (e : Event) (r : Option Skimmed) → is_wrong bytes ≡ false → n ≡ number_at bytes 0 → g ≡ gap_of last n → (g ≡ 65535 → ⊥) → e ≡ event_in bytes
     → SkimsStep t n g e r → Skims t last bytes r

@@ -15,7 +15,6 @@ use Rattle.reader.specs.declared.hear.Heard.{Heard}
 use Rattle.reader.specs.Records.{is_wrong, event_in}
 use Rattle.refusal.specs.declared.Refusal.{Refusal}
 use Rattle.refusal.specs.declared.rejected.Rejected.{Rejected}
-use Rattle.refusal.specs.Refusing.{rejected}
 
 -- "the 16-bit difference, wrapping", of 16-bit numbers
 abbrev pub less : ℕ → ℕ → ℕ

@@ -75,6 +75,7 @@ fn read_all(first: Replay, records: &[u8], gaps: &mut [u16]) -> Replayed
     let mut folds = first.folds;
     let mut sure = within(t);
     let mut i: usize = 0;
+    // No `for`: its turns join the two ways of a record, and the proof over the join did not close.
     while i < records.len() / 8 {
         let bytes = record_at(records, i);
         match skim(t, last, sure, bytes) {
@@ -82,17 +83,13 @@ fn read_all(first: Replay, records: &[u8], gaps: &mut [u16]) -> Replayed
                 Skimmed {
                     number,
                     gap,
-                    waited,
-                    folding: now,
+                    glided,
                 },
             ) => {
-                t.elapsed = now.elapsed;
-                t.delay_elapsed = waited;
-                t.loop_count = now.loop_count;
-                t.ping_pong_reverse = now.ping_pong_reverse;
+                glided.set_in(&mut t);
                 last = Some(number);
                 missing = capped_add(missing, gap as u64);
-                folds = capped_add(folds, now.folds as u64);
+                folds = capped_add(folds, glided.folding.folds as u64);
                 gaps[i] = gap;
                 i += 1;
             }

@@ -30,6 +30,7 @@ pub fn step_in(bytes: [u8; 8]) -> f32
     0.0
 }
 
+// By the format's numbers of kinds: an enum of them would be one more list, for these two functions alone.
 // The patterns below infinity's are those of the finite steps from +0 up.
 pub fn is_wrong(bytes: [u8; 8]) -> bool
     ensures { result ≡ is_wrong bytes }

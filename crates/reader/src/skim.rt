@@ -6,17 +6,15 @@ ghost use Rattle.reader.specs.Inner.{SkimsStep, Skims};
 use crate::gaps::gap_before;
 use crate::record::{event_in, is_wrong, number_in};
 use event_log::Event;
-use folds::Folding;
 use tween::{Glided, Tween, glide};
 
 // What the common record changes, so that it can be set in place: a step of a tween that runs and goes on
-// running, with one fold at most. The record's number and gap; delay_elapsed; and what folding changes.
+// running, with one fold at most.
 #[derive(Clone, Copy)]
 pub struct Skimmed {
     pub number: u16,
     pub gap: u16,
-    pub waited: f32,
-    pub folding: Folding,
+    pub glided: Glided,
 }
 
 fn skim_step(t: Tween, number: u16, gap: u16, event: Event) -> Option<Skimmed>
@@ -26,14 +24,11 @@ fn skim_step(t: Tween, number: u16, gap: u16, event: Event) -> Option<Skimmed>
     let Event::Step(step) = event else {
         return None;
     };
-    let Some(Glided { waited, folding }) = glide(t, step) else {
-        return None;
-    };
+    let glided = glide(t, step)?;
     Some(Skimmed {
         number,
         gap,
-        waited,
-        folding,
+        glided,
     })
 }
 

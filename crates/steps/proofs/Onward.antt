@@ -6,7 +6,7 @@ use mathlib.Core.List.{List}
 use native.Mathlib.Omega.{arith}
 use lib.ListN.{length, get_or, set, length-set}
 use lib.Ieee.{Float, nan}
-use mir.Val.{bool_byte, ok}
+use mir.Val.{bool_byte}
 use Rattle.math.proofs.Tallies.{byte-below}
 use Rattle.bezier.specs.declared.types.Found.{Found}
 use Rattle.tween.specs.declared.record.Tween.{Tween}

@@ -11,7 +11,7 @@ use Rattle.bezier.specs.declared.types.Found.{Found}
 use Rattle.refusal.specs.declared.Refusal.TheVariants.{RecordBreaksLimit}
 use Rattle.tween.specs.declared.record.Tween.{Tween}
 use Rattle.tween.specs.declared.answers.Updated.{Updated}
-use Rattle.folds.specs.declared.Folding.{Folding}
+use Rattle.tween.specs.declared.update.Glided.{Glided}
 use Rattle.tween.specs.Limits.{settings_within, clock_within, within_of}
 use Rattle.tween.specs.Calls.{value_of}
 use Rattle.tween.specs.Update.{update_of, updated}
@@ -22,7 +22,6 @@ use Rattle.steps.specs.declared.take.Taken.{Taken}
 use Rattle.steps.specs.Course.{valued, taken, step_of}
 use Rattle.refusal.specs.declared.Refusal.{Refusal}
 use Rattle.refusal.specs.declared.rejected.Rejected.{Rejected}
-use Rattle.refusal.specs.Refusing.{rejected}
 
 refuses : (u : Tween) → within_of u ≡ false → value_of u ≡ Err RecordBreaksLimit
 unfolding value_of
@@ -69,7 +68,7 @@ step-fine t x = go (update_of t x)
 pub took-within : (t u : Tween) (x : Float) (f : Found) (k : ℕ) → step_of t x ≡ Ok (record { tween = u; found = f; folds = k }) → within_of u ≡ true
 took-within t u x f k e = subst Fine e (step-fine t x)
 
-module _ (t : Tween) (x w : Float) (p : Folding) (h : Glides t x (Some (record { waited = w; folding = p }))) where
-  pub glide-took : (f : Found) → value_of (placed t w p) ≡ Ok f → step_of t x ≡ Ok (record { tween = placed t w p; found = f; folds = p.folds })
+module _ (t : Tween) (x : Float) (g : Glided) (h : Glides t x (Some g)) where
+  pub glide-took : (f : Found) → value_of (placed t g.waited g.folding) ≡ Ok f → step_of t x ≡ Ok (record { tween = placed t g.waited g.folding; found = f; folds = g.folding.folds })
   unfolding step_of
-  glide-took f e = rw (goes_to t x w p h, e) refl
+  glide-took f e = rw (goes_to t x g h, e) refl

@@ -13,7 +13,6 @@ use Rattle.tween.specs.Update.{update_of}
 use Rattle.steps.specs.declared.take.Taken.{Taken}
 use Rattle.steps.specs.declared.run.Run.{Run}
 use Rattle.refusal.specs.declared.rejected.Rejected.{Rejected}
-use Rattle.refusal.specs.Refusing.{rejected}
 
 -- the value behind an update; where it is refused, so is the step
 abbrev pub valued : Tween → ℕ → Result Found Refusal → Result Taken Refusal

@@ -3,7 +3,7 @@ ghost use Rattle.std.specs.Prelude.{◌≡◌, true, ◌≤◌, length};
 ghost use Rattle.tween.specs.Limits.{within_of};
 ghost use Rattle.steps.specs.Inner.{ReachesOn};
 
-use tween::{Glided, Tween, glide, value_by};
+use tween::{Tween, glide, value_by};
 
 // As far as the common steps went: the tween behind them, the place of the step that is next, and how many
 // values of the run are not settled so far.
@@ -30,28 +30,23 @@ pub fn glide_on(
     let easing = first.easing;
     let mut t = first;
     let mut unsettled = before;
-    let mut i = from;
-    while i < steps.len() {
-        let Some(Glided { waited, folding }) = glide(t, steps[i]) else {
+    for i in from..steps.len() {
+        let Some(glided) = glide(t, steps[i]) else {
             return Stretch {
                 tween: t,
                 next: i,
                 unsettled,
             };
         };
-        t.elapsed = folding.elapsed;
-        t.delay_elapsed = waited;
-        t.loop_count = folding.loop_count;
-        t.ping_pong_reverse = folding.ping_pong_reverse;
+        glided.set_in(&mut t);
         let found = value_by(easing, t);
         values[i] = found.value;
-        folds[i] = folding.folds;
+        folds[i] = glided.folding.folds;
         unsettled += !found.settled as usize;
-        i += 1;
     }
     Stretch {
         tween: t,
-        next: i,
+        next: steps.len(),
         unsettled,
     }
 }

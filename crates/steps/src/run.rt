@@ -38,6 +38,7 @@ fn run_on(first: Tween, steps: &[f32], values: &mut [f32], folds: &mut [u32]) ->
     let mut t = first;
     let mut unsettled: usize = 0;
     let mut i: usize = 0;
+    // No `for`: a stretch takes i on by many steps at once.
     while i < steps.len() {
         let stretch = glide_on(t, i, unsettled, steps, values, folds);
         t = stretch.tween;

@@ -33,9 +33,11 @@ one-fold t w e q z b f n =
     let m : due t.duration (fold_once t.looping t.duration p) ≡ false = ap (due t.duration) (sym f) ∙ n in
     rw (z, b, folds-once t.looping t.duration p m 4094, ← f, n) refl
 
-pub goes_to : (t : Tween) (x w : Float) (p : Folding) → Glides t x (Some (record { waited = w; folding = p })) → update_of t x ≡ updated (placed t w p) p.folds true
-goes_to t x w p h = h.1.0 ∙ (rw (h.0, h.1.1) refl)
+pub goes_to : (t : Tween) (x : Float) (g : Glided) → Glides t x (Some g) → update_of t x ≡ updated (placed t g.waited g.folding) g.folding.folds true
+goes_to t x g h = h.1.0 ∙ (rw (h.0, h.1.1) refl)
 
 -- and leaves the tween within its limits
-pub glide-within : (t : Tween) (x w : Float) (p : Folding) → Glides t x (Some (record { waited = w; folding = p })) → within_of (placed t w p) ≡ true
-glide-within t x w p h = is_true (within_of (placed t w p)) (update-within t (placed t w p) x p.folds true (goes_to t x w p h) (le→leb p.loop_count 16777216 h.1.2))
+pub glide-within : (t : Tween) (x : Float) (g : Glided) → Glides t x (Some g) → within_of (placed t g.waited g.folding) ≡ true
+glide-within t x g h =
+    let u = placed t g.waited g.folding in
+    is_true (within_of u) (update-within t u x g.folding.folds true (goes_to t x g h) (le→leb g.folding.loop_count 16777216 h.1.2))

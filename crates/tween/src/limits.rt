@@ -9,12 +9,11 @@ fn idle_below(state: TweenState, waited: f32, delay: f32) -> bool
 {
     match state {
         TweenState::Idle => waited < delay,
-        TweenState::Running => true,
-        TweenState::Paused => true,
-        TweenState::Completed => true,
+        TweenState::Running | TweenState::Paused | TweenState::Completed => true,
     }
 }
 
+#[tactic(auto, unfolding(crate::specs::Limits::settings_within))]
 fn settings_within(t: Tween) -> bool
     ensures { result ≡ settings_within t }
 {
@@ -29,6 +28,7 @@ fn settings_within(t: Tween) -> bool
         & easing.fits_record()
 }
 
+#[tactic(auto, unfolding(crate::specs::Limits::clock_within))]
 fn clock_within(t: Tween) -> bool
     ensures { result ≡ clock_within t }
 {
@@ -38,6 +38,7 @@ fn clock_within(t: Tween) -> bool
         & idle_below(state, t.delay_elapsed, t.delay)
 }
 
+#[tactic(auto, unfolding(crate::specs::Limits::within_of))]
 pub fn within(t: Tween) -> bool
     ensures { result ≡ within_of t }
 {

@@ -39,6 +39,7 @@ fn lasts_for(looping: Loop, delay: f32, duration: f32) -> f32
 }
 
 // `value` of a tween that is known to be within its limits: an inner step, for runs of many.
+#[tactic(auto, unfolding(crate::specs::Calls::value_of))]
 pub fn value_in(t: Tween) -> Result<Found, Refusal>
     requires { within_of t ≡ true }
     ensures { result ≡ value_of t }
@@ -52,6 +53,7 @@ pub fn value_in(t: Tween) -> Result<Found, Refusal>
 
 impl Tween {
     // The value at this time.
+    #[tactic(auto, unfolding(crate::specs::Calls::value_of))]
     pub fn value(self) -> Result<Found, Refusal>
         ensures { result ≡ value_of self }
     {
@@ -62,6 +64,7 @@ impl Tween {
     }
 
     // How far along in the pass under way, from 0 to 1, before the easing.
+    #[tactic(auto, unfolding(crate::specs::Calls::progress_of))]
     pub fn progress(self) -> Result<Progress, Refusal>
         ensures { result ≡ progress_of self }
     {
@@ -72,6 +75,7 @@ impl Tween {
     }
 
     // The same after the easing, which may leave 0 to 1.
+    #[tactic(auto, unfolding(crate::specs::Calls::eased_progress_of))]
     pub fn eased_progress(self) -> Result<Found, Refusal>
         ensures { result ≡ eased_progress_of self }
     {
@@ -82,6 +86,7 @@ impl Tween {
         easing.apply(Progress(progress_in(self)))
     }
 
+    #[tactic(auto, unfolding(crate::specs::Calls::snapshot_of))]
     pub fn snapshot(self) -> Result<TweenSnapshot, Refusal>
         ensures { result ≡ snapshot_of self }
     {
@@ -100,6 +105,7 @@ impl Tween {
     }
 
     // The delay and all passes; infinity in the modes without an end.
+    #[tactic(auto, unfolding(crate::specs::Calls::playback_duration_of))]
     pub fn playback_duration(self) -> Result<Seconds, Refusal>
         ensures { result ≡ playback_duration_of self }
     {

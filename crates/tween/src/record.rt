@@ -71,21 +71,14 @@ impl Tween {
 pub fn with_ends(t: Tween, start: f32, end: f32, snapshot: TweenSnapshot) -> Tween
     ensures { result ≡ with_ends start end snapshot t }
 {
-    let easing = t.easing;
-    let looping = t.looping;
-    let state = snapshot.state;
     Tween {
         start,
         end,
-        duration: t.duration,
-        easing,
-        delay: t.delay,
-        time_scale: t.time_scale,
-        looping,
         elapsed: snapshot.elapsed,
         delay_elapsed: snapshot.delay_elapsed,
-        state,
+        state: snapshot.state,
         loop_count: snapshot.loop_count,
         ping_pong_reverse: snapshot.ping_pong_reverse,
+        ..t
     }
 }

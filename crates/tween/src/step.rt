@@ -40,6 +40,7 @@ fn run_to(t: Tween, waited: f32, p: Folding) -> Result<Updated, Rejected<Tween>>
 }
 
 // The tween runs on with delay_elapsed waited and elapsed e.
+#[tactic(auto, unfolding(crate::specs::Update::advanced, crate::specs::Update::folded))]
 fn advance(t: Tween, waited: f32, e: f32) -> Result<Updated, Rejected<Tween>>
     requires { t.loop_count ≤ 16777216 }
     ensures { result ≡ advanced t waited e }
@@ -109,6 +110,7 @@ pub fn run(t: Tween, x: f32) -> Begun
     }
 }
 
+#[tactic(auto, unfolding(crate::specs::Update::by_state))]
 fn begin(t: Tween, x: f32) -> Begun
     ensures { finish_of t result ≡ by_state t.state t x }
 {
@@ -133,14 +135,11 @@ fn finish(t: Tween, begun: Begun) -> Result<Updated, Rejected<Tween>>
         }),
         Begun::Lost => Err(Rejected::new(t, Refusal::StepLost)),
         Begun::Waits(waited) => {
-            let now = TweenSnapshot {
-                elapsed: t.elapsed,
+            let next = Tween {
                 delay_elapsed: waited,
-                loop_count: t.loop_count,
-                ping_pong_reverse: t.ping_pong_reverse,
                 state: TweenState::Idle,
+                ..t
             };
-            let next = with_ends(t, t.start, t.end, now);
             Ok(Updated {
                 tween: next,
                 folds: 0,
@@ -152,6 +151,7 @@ fn finish(t: Tween, begun: Begun) -> Result<Updated, Rejected<Tween>>
 }
 
 // `update` of a tween that is known to be within its limits: an inner step, for runs of many.
+#[tactic(auto, unfolding(crate::specs::Update::update_of), using(crate::proofs::Bounds::within_count))]
 pub fn step_on(t: Tween, step: f32) -> Result<Updated, Rejected<Tween>>
     requires { within_of t ≡ true }
     ensures { result ≡ update_of t step }

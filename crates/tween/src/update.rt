@@ -3,7 +3,7 @@
 ghost use Rattle.std.specs.Prelude.{◌≡◌, ◌≤◌, true};
 ghost use Rattle.tween.specs.Limits.{within_of};
 ghost use Rattle.tween.specs.Update.{update_of};
-ghost use Rattle.tween.specs.Inner.{Slides, Glides};
+ghost use Rattle.tween.specs.Inner.{Slides, Glides, placed};
 
 use crate::answers::Updated;
 use crate::limits::within;
@@ -18,6 +18,18 @@ use refusal::{Refusal, Rejected};
 pub struct Glided {
     pub waited: f32,
     pub folding: Folding,
+}
+
+impl Glided {
+    // In the tween that the step was asked of. The tween is lent, so that a loop copies none.
+    pub fn set_in(self, t: &mut Tween)
+        ensures { t.new ≡ placed t.old self.waited self.folding }
+    {
+        t.elapsed = self.folding.elapsed;
+        t.delay_elapsed = self.waited;
+        t.loop_count = self.folding.loop_count;
+        t.ping_pong_reverse = self.folding.ping_pong_reverse;
+    }
 }
 
 // `advance` where the tween runs on with one fold at most; else None.
@@ -85,15 +97,12 @@ impl Tween {
             return Err(Rejected::new(self, Refusal::RecordBreaksLimit));
         }
         match glide(self, step) {
-            Some(Glided { waited, folding }) => {
+            Some(glided) => {
                 let mut t = self;
-                t.elapsed = folding.elapsed;
-                t.delay_elapsed = waited;
-                t.loop_count = folding.loop_count;
-                t.ping_pong_reverse = folding.ping_pong_reverse;
+                glided.set_in(&mut t);
                 Ok(Updated {
                     tween: t,
-                    folds: folding.folds,
+                    folds: glided.folding.folds,
                     running: true,
                 })
             }

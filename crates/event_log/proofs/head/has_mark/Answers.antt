@@ -1,9 +1,8 @@
 -- `has_mark` meets its contract. Assumes nothing.
-use Rattle.event_log.proofs.Heads.{mark-short, mark-read}
+use Rattle.std.proofs.Common.{◌∙◌}
+use Rattle.event_log.specs.Format.{mark}
+use Rattle.event_log.proofs.Heads.{starts-same}
 use Rattle.event_log.proofs.head.has_mark.Goals as goal
 
-pub returns-then-log-lt3 : goal.returns-then-log-lt3
-returns-then-log-lt3 c = mark-short c.args.log.now c.if-log-lt3.true
-
 pub returns : goal.returns
-returns c = mark-read c.args.log.now c.if-log-lt3.false
+returns c = c.starts_with.ensures.value ∙ starts-same mark c.args.log.now

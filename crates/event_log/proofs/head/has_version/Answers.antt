@@ -1,9 +1,12 @@
 -- `has_version` meets its contract. Assumes nothing.
-use Rattle.event_log.proofs.Heads.{version-short, version-read}
+use Rattle.std.proofs.Common.{◌∙◌, drop}
+use borrow.Author.Rules.{part_to_end}
+use Rattle.event_log.specs.Format.{version}
+use Rattle.event_log.proofs.Heads.{version-short, starts-same}
 use Rattle.event_log.proofs.head.has_version.Goals as goal
 
-pub returns-then-log-lt5 : goal.returns-then-log-lt5
-returns-then-log-lt5 c = version-short c.args.log.now c.if-log-lt5.true
+pub returns-then-log-lt3 : goal.returns-then-log-lt3
+returns-then-log-lt3 c = version-short c.args.log.now c.if-log-lt3.true
 
 pub returns : goal.returns
-returns c = version-read c.args.log.now c.if-log-lt5.false
+returns c = (rw (part_to_end c.args.log.now 3) at c.starts_with.ensures.value) ∙ starts-same version (drop 3 c.args.log.now)

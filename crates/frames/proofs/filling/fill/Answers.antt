@@ -5,30 +5,15 @@ use native.Mathlib.Omega.{arith}
 use borrow.Author.Rules.{rules}
 use mir.Syntax.{w64}
 use mir.Val.{Fits}
-use lib.ListN.{length, take, get_or, length-set}
+use lib.ListN.{length, length-set}
 use lib.Seq.{take-length}
 use lib.Ieee.{nan}
 use Rattle.math.proofs.Tallies.{byte-below}
-use Rattle.frames.specs.Sampling.{sample_of, filled_of, unsettled_of}
-use Rattle.frames.proofs.Picks.{picked-by}
-use Rattle.frames.proofs.Walks.{array_long}
+use Rattle.frames.specs.Sampling.{filled_of, unsettled_of}
 use Rattle.frames.proofs.Fills.{fill_none, fill_more, fill-all}
 use Rattle.frames.proofs.Counts.{byte_fits, count_next, count_past}
 use Rattle.frames.proofs.filling.fill.Invariants.{at, off}
 use Rattle.frames.proofs.filling.fill.Goals as goal
-use Rattle.frames.proofs.filling.fill.Goals.{After-pick-found}
-
--- what `pick` answers is the sample
-sampled : (c : After-pick-found)
-    → c.pick-found.result ≡ sample_of (take c.args.n c.args.frames) (get_or c.args.times.now c.loop-i.i nan)
-sampled c =
-    let t = c.args.frames in let l : length t ≡ 64 = array_long t _ c.well_formed.0 in
-    picked-by t c.args.n (omega arith) (omega arith) c.requires.0 _ _ _ _ _ _
-    c.max_zero.ensures
-    c.cut-t.ensures
-    c.times_of-starts.ensures
-    c.interval-low.ensures.1
-    c.pick-found.ensures
 
 pub loop-i-init : goal.loop-i-init
 unfolding filled_of unsettled_of
@@ -41,7 +26,7 @@ overflow_add-unsettled c = let h : Fits w64 (c.loop-i.i + 1) = omega arith in se
 pub loop-i-preserved : goal.loop-i-preserved
 unfolding filled_of unsettled_of
 loop-i-preserved c = let h : c.loop-i.i < length c.args.times.now = omega arith in
-    let e = sampled (goal.at.loop-i-preserved c).After-pick-found in
+    let e = c.at-found.ensures in
     let q = count_next (off c.args.frames c.args.n) c.args.times.now (length c.args.times.now) c.loop-i.i h (λ k. absurd (omega (arith, k))) in
     (omega arith, simp length-set c.loop-i.invariant.1, rw (e, c.loop-i.invariant.2) (fill_more (at c.args.frames c.args.n) nan c.args.times.now c.args.out.now c.requires.3 c.loop-i.i h), search (rules, byte-below), rw e (omega (arith, q)))
 

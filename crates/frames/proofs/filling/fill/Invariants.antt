@@ -1,5 +1,5 @@
 -- `fill` meets its contract. The invariant: the first i places of out hold the samples at their times, and what did not settle among them and among those that are left makes the whole count. Assumes nothing.
-use Prim.Native.Nat.{ℕ, ◌≤◌, ◌<◌, ◌+◌, ◌-◌}
+use Prim.Native.Nat.{ℕ, ◌≤◌, ◌<◌, ◌+◌}
 use mathlib.Core.Path.{◌≡◌}
 use mathlib.Core.Bool.{Bool, not}
 use mathlib.Core.List.{List}

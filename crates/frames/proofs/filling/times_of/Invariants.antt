@@ -1,5 +1,5 @@
 -- `times_of` meets its contract. The invariant: the first i places hold their frames' times. Assumes nothing.
-use Prim.Native.Nat.{◌≤◌, ◌-◌}
+use Prim.Native.Nat.{◌≤◌}
 use mathlib.Core.Path.{◌≡◌}
 use Rattle.frames.specs.declared.frame.Keyframe.{Keyframe}
 use Rattle.frames.proofs.Fills.{fill_to}

@@ -3,6 +3,7 @@ use Prim.Native.Nat.{◌<◌, ◌≤◌}
 use mathlib.Core.Path.{◌≡◌}
 use mathlib.Core.Bool.{false}
 use lib.ListN.{length, get_or}
+use lib.Seq.{length-take-le}
 use lib.Ieee.{eq}
 use native.Mathlib.Omega.{arith}
 use Rattle.frames.specs.Limits.{no_frame}
@@ -24,7 +25,7 @@ pub returns-then-frames-p : goal.returns-then-frames-p
 returns-then-frames-p c = put_same c.args.frames c.args.n c.args.k (long (goal.at.returns-then-frames-p c).Start) c.requires c.earlier-p.result c.earlier-p.ensures.1 c.if-p-n.true c.if-frames-p.true
 
 pub returns-then-n-lt64 : goal.returns-then-n-lt64
-returns-then-n-lt64 c = rw c.insert-g.ensures (put-new c.args.frames c.args.n c.args.k (long (goal.at.returns-then-n-lt64 c).Start) c.requires c.earlier-p.result c.earlier-p.ensures.1 c.earlier-p.ensures.0 (other (goal.at.returns-then-n-lt64 c).Joined-p-n) c.if-n-lt64.true)
+returns-then-n-lt64 c = rw c.insert-g.ensures (put-new c.args.frames c.args.n c.args.k (long (goal.at.returns-then-n-lt64 c).Start) c.requires c.earlier-p.result c.earlier-p.ensures.1 (omega (arith, c.earlier-p.ensures.0, length-take-le c.args.n c.args.frames (long (goal.at.returns-then-n-lt64 c).Start))) (other (goal.at.returns-then-n-lt64 c).Joined-p-n) c.if-n-lt64.true)
 
 pub returns : goal.returns
-returns c = put_full c.args.frames c.args.n c.args.k (long (goal.at.returns c).Start) c.requires c.earlier-p.result c.earlier-p.ensures.1 c.earlier-p.ensures.0 (other (goal.at.returns c).Joined-p-n) c.if-n-lt64.false
+returns c = put_full c.args.frames c.args.n c.args.k (long (goal.at.returns c).Start) c.requires c.earlier-p.result c.earlier-p.ensures.1 (omega (arith, c.earlier-p.ensures.0, length-take-le c.args.n c.args.frames (long (goal.at.returns c).Start))) (other (goal.at.returns c).Joined-p-n) c.if-n-lt64.false

@@ -20,7 +20,7 @@ pub bounds-gaps-i : goal.bounds-gaps-i
 bounds-gaps-i c = place _ _ _ c.requires.0 c.requires.1 _ _ _ c.loop-i.invariant.0 c.loop-i-test.true
 
 pub loop-i-preserved-in-Some : goal.loop-i-preserved-in-Some
-loop-i-preserved-in-Some c = let s = subst (Skims _ _ _) c.in-Some.is c.skim.ensures in (rw (c.capped_add-missing.ensures, c.capped_add-folds.ensures) (goes_on _ _ _ c.requires.0 c.requires.1 _ _ _ c.loop-i.invariant.0 _ _ c.loop-i-test.true (ap (heard_of _) (sym c.record_at-bytes.ensures) ∙ s.0 _ _)), λ _. s.1)
+loop-i-preserved-in-Some c = let s = subst (Skims _ _ _) c.in-Some.is c.skim.ensures in (rw (c.capped_add-missing.ensures, c.capped_add-folds.ensures, c.set_in.ensures) (goes_on _ _ _ c.requires.0 c.requires.1 _ _ _ c.loop-i.invariant.0 _ _ c.loop-i-test.true (ap (heard_of _) (sym c.record_at-bytes.ensures) ∙ s.0 _ _)), λ _. rw c.set_in.ensures s.1)
 
 pub offset_bounds-gaps-i-in-Ok : goal.offset_bounds-gaps-i-in-Ok
 offset_bounds-gaps-i-in-Ok c = scaled_Fits _ _ 2 (place _ _ _ c.requires.0 c.requires.1 _ _ _ c.loop-i.invariant.0 c.loop-i-test.true) (omega (arith, c.loop-i.invariant.0.gaps-long, c.well_formed.1.1.0.1))

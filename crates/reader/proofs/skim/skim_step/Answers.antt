@@ -5,4 +5,4 @@ use Rattle.reader.proofs.Skimming.{skims-step}
 use Rattle.reader.proofs.skim.skim_step.Goals as goal
 
 pub returns : goal.returns
-returns c = rw c.in-Step.is (skims-step _ _ _ _ _ _ (subst (Glides _ _) c.in-Some.is c.glide.ensures))
+returns c = rw c.in-Step.is (skims-step _ _ _ _ _ (subst (Glides _ _) c.in_ok-glided.was c.glide.ensures))

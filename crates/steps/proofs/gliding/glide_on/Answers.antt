@@ -1,7 +1,8 @@
--- `glide_on` meets its contract. The invariant: the run has gone on to step i. The measure is the steps that are left. Assumes nothing.
+-- `glide_on` meets its contract. The invariant: the run has gone on to step i. Assumes nothing.
 use native.Mathlib.Omega.{arith}
 use mathlib.Core.Bool.{not}
-use mathlib.Core.Path.{refl, subst}
+use mathlib.Core.Path.{◌≡◌, refl, subst}
+use lib.ListN.{length}
 use Rattle.math.proofs.Tallies.{byte-below}
 use Rattle.tween.specs.Inner.{Glides}
 use Rattle.tween.proofs.Glides.{glide-within}
@@ -25,7 +26,7 @@ pub returns-in_default : goal.returns-in_default
 returns-in_default c = let o = c.loop-i.invariant.0 in (o.later, o.reaches)
 
 pub value_by-found-requires : goal.value_by-found-requires
-value_by-found-requires c = (glide-within _ _ _ _ (subst (Glides _ _) c.in-Some.is c.glide.ensures), c.loop-i.invariant.1)
+value_by-found-requires c = rw c.set_in.ensures (glide-within _ _ _ (subst (Glides _ _) c.in-Some.is c.glide.ensures), c.loop-i.invariant.1)
 
 pub bounds-values-i : goal.bounds-values-i
 bounds-values-i c = omega (arith, c.loop-i.invariant.0.values-long, c.requires.1)
@@ -38,7 +39,7 @@ overflow_add-unsettled c = omega (arith, byte-below (not c.value_by-found.result
 
 pub loop-i-preserved : goal.loop-i-preserved
 loop-i-preserved c = let p = c.requires in let g = subst (Glides _ _) c.in-Some.is c.glide.ensures in
-    (one-more-step _ _ _ _ _ _ p.1 p.2 _ _ _ _ _ c.loop-i.invariant.0 _ _ _ c.loop-i-test.true (glide-took _ _ _ _ g _ c.value_by-found.ensures) (glide-within _ _ _ _ g), c.loop-i.invariant.1)
+    rw c.set_in.ensures (one-more-step _ _ _ _ _ _ p.1 p.2 _ _ _ _ _ c.loop-i.invariant.0 _ _ _ c.loop-i-test.true (glide-took _ _ _ g _ (rw c.set_in.ensures at c.value_by-found.ensures)) (glide-within _ _ _ g), c.loop-i.invariant.1)
 
 pub shape_of-values : goal.shape_of-values
 shape_of-values c = c.loop-i.invariant.0.values-long
@@ -47,4 +48,5 @@ pub shape_of-folds : goal.shape_of-folds
 shape_of-folds c = c.loop-i.invariant.0.folds-long
 
 pub returns : goal.returns
-returns c = let o = c.loop-i.invariant.0 in (o.later, o.reaches)
+returns c = let o = c.loop-i.invariant.0 in let e : c.loop-i.i ≡ length c.args.steps.now = omega (arith, o.few) in
+    (rw e at o.later, rw e at o.reaches)

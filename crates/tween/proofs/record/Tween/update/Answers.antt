@@ -22,7 +22,7 @@ step_on-requires c = passes _ _ c.within.ensures (ap not c.if-not-within.false)
 
 pub returns-in-Some : goal.returns-in-Some
 unfolding update_of
-returns-in-Some c = sym (goes_to _ _ _ _ (subst (Glides _ _) c.in-Some.is c.glide.ensures))
+returns-in-Some c = rw c.set_in.ensures (sym (goes_to _ _ _ (subst (Glides _ _) c.in-Some.is c.glide.ensures)))
 
 pub returns-in-None : goal.returns-in-None
 unfolding update_of
