@@ -39,7 +39,7 @@ use Rattle.words.specs.Tracks.{frame_from, frame_read, known_track, track_from}
 use Rattle.track_words.specs.Checking.{check_of}
 use Rattle.track_words.specs.Pushing.{has_room, push_into, stored_row}
 use Rattle.track_words.specs.Reading.{track_of}
-use Rattle.track_words.proofs.Checked.{passed-known, passed-within}
+use Rattle.track_words.proofs.Passed.{passed-known, passed-within}
 use Rattle.track_words.proofs.Pushes.{push-outcome}
 use Rattle.capi.specs.Answers.{Answer, accepted, refused, found_words, found_in, seconds_in, progress_in, flag_in}
 use Rattle.capi.specs.Tracks.{on_track, lax_track_push, pushed, pushed_by, loop_into, looped_by, looped, lax_track_looping, lax_track_value_at, lax_track_value, lax_track_active_time, lax_track_duration, lax_track_playback_duration, lax_track_progress, completion_in, lax_track_is_complete, moved_in, lax_track_reset, lax_track_seek_to, TrackStepping, stepped_in, lax_track_update, Filling, filled_in, lax_track_values_at}

@@ -3,7 +3,7 @@
 ghost use Rattle.std.specs.Prelude.{◌≡◌};
 ghost use Rattle.bezier.specs.Bezier.{plain_of};
 ghost use Rattle.steps.specs.Course.{outcome_number};
-ghost use Rattle.capi.specs.Answers.{answering, accepted, found_words, found_in, seconds_in, progress_in, flag_in};
+ghost use Rattle.capi.specs.Answers.{answering, accepted, found_words, found_in, seconds_in, progress_in, flag_in, given_in};
 ghost use Rattle.capi.specs.Tweens.{snapshot_in, changed_in};
 
 use bezier::Found;
@@ -11,7 +11,7 @@ use refusal::{Refusal, Rejected};
 use tween::{Tween, TweenSnapshot};
 use units::{Progress, Seconds};
 pub use words::UNKNOWN_WORD;
-use words::{flag_word, state_word, store_tween};
+use words::{Fault, flag_word, state_word, store_tween};
 
 // The value's bits, whether it is settled, and how many the search evaluated.
 pub fn store_found(found: Found, out: &mut [u32; 4])
@@ -34,6 +34,18 @@ pub fn put_found(a: Result<Found, Refusal>, out: &mut [u32; 4]) -> u32
             0
         }
         Err(refusal) => refusal.number(),
+    }
+}
+
+pub fn put<T: Copy>(a: Result<T, Fault>, out: &mut T) -> u32
+    ensures { answering result out.new ≡ given_in out.old a }
+{
+    match a {
+        Ok(value) => {
+            *out = value;
+            0
+        }
+        Err(fault) => fault.number(),
     }
 }
 

@@ -40,13 +40,21 @@ pub fn easing_of(w: LaxEasing) -> Option<Easing>
 pub fn easing_words(e: Easing) -> LaxEasing
     ensures { result ≡ easing_words e }
 {
-    let p = easing::params_of(e);
-    LaxEasing {
-        kind: e.kind_number(),
-        a: p.a,
-        b: p.b,
-        c: p.c,
-        d: p.d,
-        count: p.count,
+    LaxEasing::from(e)
+}
+
+impl From<Easing> for LaxEasing {
+    ghost from_gives = { λ e words. words ≡ easing_words e };
+
+    fn from(e: Easing) -> LaxEasing {
+        let p = easing::params_of(e);
+        LaxEasing {
+            kind: e.kind_number(),
+            a: p.a,
+            b: p.b,
+            c: p.c,
+            d: p.d,
+            count: p.count,
+        }
     }
 }
