@@ -32,9 +32,9 @@ unknown came = answering unknown_word came
 abbrev pub faulted : {A : Type 0} → A → Fault → Answer A
 faulted came f = answering (fault_number f) came
 
-unfoldable pub given_in : {A : Type 0} → A → Result A Fault → Answer A
+unfoldable pub given_in : {A : Type 0} → A → Result A Refusal → Answer A
 given_in came (Ok a) = accepted a
-given_in came (Err f) = faulted came f
+given_in came (Err r) = refused came r
 
 -- four words: the value's bits, whether it is settled, and how many the search evaluated
 abbrev pub found_words : Found → List ℕ

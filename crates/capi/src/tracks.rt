@@ -13,7 +13,7 @@ ghost use Rattle.track_words.specs.Reading.{track_of};
 ghost use Rattle.capi.specs.Answers.{accepted, faulted};
 ghost use Rattle.capi.specs.Tracks.{loop_into, lax_track_new, lax_track_push, eased_row, plain_row, lax_track_looping, lax_track_value_at, lax_track_value, lax_track_values_at, lax_track_active_time, lax_track_duration, lax_track_playback_duration, lax_track_progress, lax_track_is_complete, lax_track_reset, lax_track_seek_to, lax_track_update};
 
-use crate::answers::{UNKNOWN_WORD, put, put_flag, put_found};
+use crate::answers::{UNKNOWN_WORD, put_flag, put_found};
 use bezier::Found;
 use frames::Keyframe;
 use keyframe::{Clock, Ticked};
@@ -86,14 +86,26 @@ pub fn lax_track_active_time(w: &[u32; 518], out: &mut f32) -> u32
     ensures number { result ≡ (lax_track_active_time w.now out.old).number }
     ensures place { out.new ≡ (lax_track_active_time w.now out.old).left }
 {
-    put(Checked::of(w).map(|track| track.active_time()), out)
+    match Checked::of(w) {
+        Ok(track) => {
+            *out = track.active_time();
+            0
+        }
+        Err(fault) => fault.number(),
+    }
 }
 
 pub fn lax_track_duration(w: &[u32; 518], out: &mut f32) -> u32
     ensures number { result ≡ (lax_track_duration w.now out.old).number }
     ensures place { out.new ≡ (lax_track_duration w.now out.old).left }
 {
-    put(Checked::of(w).map(|track| track.duration()), out)
+    match Checked::of(w) {
+        Ok(track) => {
+            *out = track.duration();
+            0
+        }
+        Err(fault) => fault.number(),
+    }
 }
 
 pub fn lax_track_playback_duration(w: &[u32; 518], out: &mut f32) -> u32

@@ -5,8 +5,7 @@ ghost use Rattle.capi.specs.Tweens.{lax_tween_new, lax_tween_value, lax_tween_pr
 ghost use Rattle.steps.specs.Course.{outcome_number};
 
 use crate::answers::{
-    UNKNOWN_WORD, outcome_number, put_found, put_plain, put_progress, put_seconds, put_snapshot,
-    put_tween,
+    UNKNOWN_WORD, outcome_number, put, put_found, put_plain, put_snapshot, put_tween,
 };
 use steps::{Run, run_steps};
 use tween::{Tween, Updated};
@@ -67,7 +66,7 @@ pub fn lax_tween_progress(w: &[u32; 18], out: &mut f32) -> u32
     ensures { answering result out.new ≡ lax_tween_progress w.now out.old }
 {
     match tween_of(tween_in(w)) {
-        Some(t) => put_progress(t.progress(), out),
+        Some(t) => put(t.progress().map(|p| p.0), out),
         None => UNKNOWN_WORD,
     }
 }
@@ -94,7 +93,7 @@ pub fn lax_tween_playback_duration(w: &[u32; 18], out: &mut f32) -> u32
     ensures { answering result out.new ≡ lax_tween_playback_duration w.now out.old }
 {
     match tween_of(tween_in(w)) {
-        Some(t) => put_seconds(t.playback_duration(), out),
+        Some(t) => put(t.playback_duration().map(|s| s.0), out),
         None => UNKNOWN_WORD,
     }
 }
