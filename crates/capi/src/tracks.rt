@@ -55,6 +55,7 @@ pub fn lax_track_looping(w: &mut [u32; 518], mode: &[u32; 2]) -> u32
     0
 }
 
+// Two calls ask for it, each at a time of its own.
 fn sample(track: Checked<'_>, secs: f32) -> Result<Found, Refusal>
     ensures { result ≡ value_at_of (track_of track.entry.words.now) secs }
 {
@@ -155,6 +156,7 @@ pub fn lax_track_reset(w: &mut [u32; 518]) -> u32
     0
 }
 
+// What a seek would leave.
 fn sought(w: &[u32; 518], p: f32) -> Result<Clock, Fault>
     ensures { MatchResult result (λ clock. accepted (clock_into w.now clock) ≡ lax_track_seek_to w.now p) (λ fault. faulted w.now fault ≡ lax_track_seek_to w.now p) }
 {
@@ -176,6 +178,7 @@ pub fn lax_track_seek_to(w: &mut [u32; 518], p: f32) -> u32
     }
 }
 
+// What a step would leave.
 fn ticked(w: &[u32; 518], step: f32) -> Result<Ticked, Fault>
     ensures { (out : ℕ) → MatchResult result (λ t. accepted (record { words = clock_into w.now t.clock; running = flag_word t.running }) ≡ lax_track_update w.now step out) (λ fault. faulted (record { words = w.now; running = out }) fault ≡ lax_track_update w.now step out) }
 {

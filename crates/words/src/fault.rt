@@ -19,7 +19,7 @@ impl Fault {
     {
         match self {
             Fault::UnknownWord => UNKNOWN_WORD,
-            Fault::Refused(refusal) => refusal.number(),
+            Fault::Refused(kind) => kind.number(),
         }
     }
 }

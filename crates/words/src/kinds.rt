@@ -27,6 +27,7 @@ pub fn is_kind(kind: u32) -> bool
     kind < KINDS
 }
 
+// An Option, as of all that is read from words: a `TryFrom` would need an error that says no more than None.
 pub fn easing_of(w: LaxEasing) -> Option<Easing>
     ensures { result ≡ easing_from w }
 {
@@ -37,6 +38,7 @@ pub fn easing_of(w: LaxEasing) -> Option<Easing>
     None
 }
 
+// docs/CONTRACTS.md, c-words, has this and `tween_words` by name.
 pub fn easing_words(e: Easing) -> LaxEasing
     ensures { result ≡ easing_words e }
 {

@@ -55,6 +55,7 @@ pub fn state_of(w: u32) -> Option<TweenState>
     }
 }
 
+// No `From`: the state and the word are both other crates' types.
 pub fn state_word(s: TweenState) -> u32
     ensures { result ≡ state_word s }
 {

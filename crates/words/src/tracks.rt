@@ -141,6 +141,7 @@ fn frames_words(came: [LaxKeyframe; 64], frames: [Keyframe; 64], count: usize) -
     words
 }
 
+// No `From`: the places that came are a second argument.
 pub fn track_words(came: [LaxKeyframe; 64], t: Track) -> LaxTrack
     ensures { result ≡ track_words came t }
 {
