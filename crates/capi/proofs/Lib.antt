@@ -1,3 +1,4 @@
 mod Quick
 mod Runs
 pub mod Tracked
+mod Given

@@ -16,7 +16,7 @@ use Rattle.refusal.specs.declared.Refusal.TheVariants.{RecordBreaksLimit, TrackF
 use Rattle.refusal.specs.Number.{number_of}
 use Rattle.loop_mode.specs.declared.Loop.{Loop}
 use Rattle.frames.specs.declared.frame.Keyframe.{Keyframe}
-use Rattle.frames.specs.Sampling.{filled_of, sample_of, unsettled_of}
+use Rattle.frames.specs.Sampling.{filled_of, unsettled_of}
 use Rattle.keyframe.specs.declared.types.Clock.{Clock}
 use Rattle.keyframe.specs.declared.types.Filled.{Filled}
 use Rattle.keyframe.specs.declared.types.Ticked.{Ticked}
@@ -28,10 +28,12 @@ use Rattle.keyframe.specs.Playback.{active_of, active_time_of, complete_of, done
 use Rattle.keyframe.specs.Pushing.{looping_of, push_of, stored_of, takes_of, with_mode}
 use Rattle.keyframe.specs.Sampling.{value_at_of}
 use Rattle.keyframe.specs.Stepping.{reset_of, seek_to_of, sought_of, update_of}
-use Rattle.keyframe.specs.Inner.{fill_outcome, looping_outcome, push_outcome, room_outcome, sample_outcome, seek_outcome}
+use Rattle.keyframe.specs.Inner.{fill_outcome, looping_outcome, push_outcome, room_outcome, seek_outcome}
 use Rattle.keyframe.proofs.Batches as batch
-use Rattle.keyframe.proofs.Refusals.{changed_by, fill-by, fill-number, looping-by, number_by, push-by, push-taken, sample-by, sampled_by, seek-by}
+use Rattle.keyframe.proofs.Refusals.{changed_by, fill-by, fill-number, looping-by, number_by, push-by, push-taken, seek-by}
 use Rattle.keyframe.proofs.Ticks.{sought-clock, update-ticked}
+use Rattle.words.specs.declared.fault.Fault.{Fault}
+use Rattle.words.specs.Faults.{fault_number}
 use Rattle.words.specs.Kinds.{is_kind}
 use Rattle.words.specs.Lent.{word_at, float_at, frame_at, loop_at, track_in, clock_into}
 use Rattle.words.specs.Modes.{loop_from, flag_word}
@@ -39,9 +41,9 @@ use Rattle.words.specs.Tracks.{frame_from, frame_read, known_track, track_from}
 use Rattle.track_words.specs.Checking.{check_of}
 use Rattle.track_words.specs.Pushing.{has_room, push_into, stored_row}
 use Rattle.track_words.specs.Reading.{track_of}
-use Rattle.track_words.proofs.Checked.{passed-known, passed-within}
+use Rattle.track_words.proofs.Passed.{passed-known, passed-within}
 use Rattle.track_words.proofs.Pushes.{push-outcome}
-use Rattle.capi.specs.Answers.{Answer, accepted, refused, found_words, found_in, seconds_in, progress_in, flag_in}
+use Rattle.capi.specs.Answers.{Answer, accepted, faulted, refused, found_in, seconds_in, progress_in, flag_in}
 use Rattle.capi.specs.Tracks.{on_track, lax_track_push, pushed, pushed_by, loop_into, looped_by, looped, lax_track_looping, lax_track_value_at, lax_track_value, lax_track_active_time, lax_track_duration, lax_track_playback_duration, lax_track_progress, completion_in, lax_track_is_complete, moved_in, lax_track_reset, lax_track_seek_to, TrackStepping, stepped_in, lax_track_update, Filling, filled_in, lax_track_values_at}
 use Rattle.refusal.specs.Refusing.{done, outcome_of}
 use Rattle.refusal.specs.declared.rejected.Rejected.{Rejected}
@@ -68,8 +70,17 @@ filling out filled = record { out = out; filled = filled }
 pub parts : (n : ℕ) (out : List Float) (filled : List ℕ) (x : Answer Filling) → answered n (filling out filled) ≡ x → record { number : n ≡ x.number; output : out ≡ x.left.out; places : filled ≡ x.left.filled }
 parts n out filled x e = record { number = ap (λ (y : Answer Filling). y.number) e; output = ap (λ (y : Answer Filling). y.left.out) e; places = ap (λ (y : Answer Filling). y.left.filled) e }
 
+fault-some : (f : Fault) → fault_number f ≡ 0 → ⊥
+fault-some f h = grind arith
+
 -- words that do not pass
-module _ (words : List ℕ) (n : ℕ) (number : n ≡ check_of words) (some : n ≡ 0 → ⊥) where
+module _ (words : List ℕ) (f : Fault) (number : fault_number f ≡ check_of words) where
+  abbrev n : ℕ
+  n = fault_number f
+
+  some : n ≡ 0 → ⊥
+  some h = fault-some f h
+
   stopped : {A : Type 0} (came : A) (answer : Track → Answer A) → ((t : Track) → within_of t ≡ false → answer t ≡ refused came RecordBreaksLimit) → answered n came ≡ on_track words came answer
   unfolding check_of
   stopped came answer breaks = go (known_track (track_in words)) (within_of (track_of words)) refl number
@@ -135,24 +146,14 @@ module _ (words : List ℕ) (fine : check_of words ≡ 0) where
   went : {A : Type 0} (came : A) (answer : Track → Answer A) → on_track words came answer ≡ answer (track_of words)
   went came answer = rw (passed-known words fine) refl
 
-  -- a sample, by its outcome
-  module _ (secs : Float) (out : List ℕ) where
-    value-by : (o : Result ⊤ Refusal) → o ≡ sample_outcome (word_at words 512) → found_in out (sampled_by (sample_of (frames_in (track_of words)) secs) o) ≡ lax_track_value_at words secs out
-    unfolding lax_track_value_at track_from track_in
-    value-by o e = ap (found_in out) (sample-by (track_of words) within secs o e) ∙ sym (went out (λ t. found_in out (value_at_of t secs)))
-
-    pub value_not : (r : Refusal) → Err r ≡ sample_outcome (word_at words 512) → refused out r ≡ lax_track_value_at words secs out
-    unfolding found_in
-    value_not r e = value-by (Err r) e
-
-    pub value-is : done ≡ sample_outcome (word_at words 512) → accepted (found_words (sample_of (frames_in (track_of words)) secs)) ≡ lax_track_value_at words secs out
-    unfolding found_in
-    value-is e = value-by done e
-
   module _ (out : List ℕ) where
-    pub now-is : lax_track_value_at words (active_of (track_of words)) out ≡ lax_track_value words out
-    unfolding lax_track_value_at lax_track_value
-    now-is = went out (λ t. found_in out (value_at_of t (active_of (track_of words)))) ∙ sym (went out (λ t. found_in out (value_at_of t (active_of t))))
+    pub value-is : (secs : Float) → found_in out (value_at_of (track_of words) secs) ≡ lax_track_value_at words secs out
+    unfolding lax_track_value_at
+    value-is secs = sym (went out (λ t. found_in out (value_at_of t secs)))
+
+    pub now-is : found_in out (value_at_of (track_of words) (active_of (track_of words))) ≡ lax_track_value words out
+    unfolding lax_track_value
+    now-is = sym (went out (λ t. found_in out (value_at_of t (active_of t))))
 
   module _ (out : Float) where
     pub active-is : accepted (active_of (track_of words)) ≡ lax_track_active_time words out
@@ -279,9 +280,9 @@ push-unknown words row h = rw h (go (known_track (track_in words)))
     go false = refl
 
 module _ (words row : List ℕ) (k : Keyframe) (known : frame_read (frame_at row 0) ≡ Some k) where
-  pub push-stopped : (n : ℕ) → n ≡ check_of words → (n ≡ 0 → ⊥) → answered n words ≡ lax_track_push words row
+  pub push-stopped : (f : Fault) → fault_number f ≡ check_of words → faulted words f ≡ lax_track_push words row
   unfolding lax_track_push push_of
-  push-stopped n e some = rw known (stopped words n e some words (pushed words row (Some k)) (λ t h. rw h refl))
+  push-stopped f e = rw known (stopped words f e words (pushed words row (Some k)) (λ t h. rw h refl))
 
   -- the frame with its time as it is stored
   at-time : (stored_of k).time ≡ float_at (stored_row row) 0

@@ -4,6 +4,8 @@ use Rattle.math.specs.Bits.{bits_of}
 use Rattle.refusal.specs.declared.Refusal.{Refusal}
 use Rattle.refusal.specs.Number.{number_of}
 use Rattle.bezier.specs.declared.types.Found.{Found}
+use Rattle.words.specs.declared.fault.Fault.{Fault}
+use Rattle.words.specs.Faults.{fault_number}
 use Rattle.words.specs.Kinds.{unknown_word}
 use Rattle.words.specs.Modes.{flag_word}
 use Rattle.units.specs.declared.Progress.{Progress}
@@ -26,6 +28,13 @@ refused came r = answering (number_of r) came
 -- a word is no kind, no mode, no state
 abbrev pub unknown : {A : Type 0} → A → Answer A
 unknown came = answering unknown_word came
+
+abbrev pub faulted : {A : Type 0} → A → Fault → Answer A
+faulted came f = answering (fault_number f) came
+
+unfoldable pub given_in : {A : Type 0} → A → Result A Refusal → Answer A
+given_in came (Ok a) = accepted a
+given_in came (Err r) = refused came r
 
 -- four words: the value's bits, whether it is settled, and how many the search evaluated
 abbrev pub found_words : Found → List ℕ

@@ -1,7 +1,7 @@
 -- The calls of a track: the track read from its 518 words, the library's definition, and what is left in the lent words and places.
 use Rattle.std.specs.Prelude.{ℕ, cond, List, [], ◌∷◌, eqb, set, replicate, Float, Bool, Err, None, Ok, Option, Result, Some, ⊤}
 use Rattle.math.specs.Bits.{bits_of}
-use Rattle.refusal.specs.Refusing.{unless, outcome_of, rejected}
+use Rattle.refusal.specs.Refusing.{unless, outcome_of}
 use Rattle.keyframe.specs.declared.types.Track.{Track}
 use Rattle.keyframe.specs.declared.types.Updated.{Updated}
 use Rattle.keyframe.specs.declared.types.Filled.{Filled}

@@ -17,7 +17,6 @@ use Rattle.capi.specs.Easings.{easing_list}
 use Rattle.refusal.specs.declared.Refusal.{Refusal}
 use Rattle.refusal.specs.declared.rejected.Rejected.{Rejected}
 use Rattle.tween.specs.declared.record.TweenSnapshot.{TweenSnapshot}
-use Rattle.refusal.specs.Refusing.{rejected}
 
 abbrev pub by_tween : {A : Type 0} → Option Tween → A → (Tween → Answer A) → Answer A
 by_tween (Some t) came answer = answer t

@@ -3,34 +3,39 @@
 ghost use Rattle.std.specs.Prelude.{◌≡◌};
 ghost use Rattle.bezier.specs.Bezier.{plain_of};
 ghost use Rattle.steps.specs.Course.{outcome_number};
-ghost use Rattle.capi.specs.Answers.{answering, accepted, found_words, found_in, seconds_in, progress_in, flag_in};
+ghost use Rattle.capi.specs.Answers.{answering, accepted, found_words, found_in, flag_in, given_in};
 ghost use Rattle.capi.specs.Tweens.{snapshot_in, changed_in};
 
 use bezier::Found;
 use refusal::{Refusal, Rejected};
 use tween::{Tween, TweenSnapshot};
-use units::{Progress, Seconds};
 pub use words::UNKNOWN_WORD;
 use words::{flag_word, state_word, store_tween};
 
 // The value's bits, whether it is settled, and how many the search evaluated.
-pub fn store_found(found: Found, out: &mut [u32; 4])
-    ensures { out.new ≡ found_words found }
-{
-    *out = [
-        math::bits(found.value),
-        flag_word(found.settled),
-        found.xs,
-        found.derivatives as u32,
-    ];
-}
-
 pub fn put_found(a: Result<Found, Refusal>, out: &mut [u32; 4]) -> u32
     ensures { answering result out.new ≡ found_in out.old a }
 {
     match a {
         Ok(found) => {
-            store_found(found, out);
+            *out = [
+                math::bits(found.value),
+                flag_word(found.settled),
+                found.xs,
+                found.derivatives as u32,
+            ];
+            0
+        }
+        Err(refusal) => refusal.number(),
+    }
+}
+
+pub fn put<T: Copy>(a: Result<T, Refusal>, out: &mut T) -> u32
+    ensures { answering result out.new ≡ given_in out.old a }
+{
+    match a {
+        Ok(value) => {
+            *out = value;
             0
         }
         Err(refusal) => refusal.number(),
@@ -50,30 +55,6 @@ pub fn put_flag(b: bool, out: &mut u32) -> u32
 {
     *out = flag_word(b);
     0
-}
-
-pub fn put_seconds(a: Result<Seconds, Refusal>, out: &mut f32) -> u32
-    ensures { answering result out.new ≡ seconds_in out.old a }
-{
-    match a {
-        Ok(s) => {
-            *out = s.0;
-            0
-        }
-        Err(refusal) => refusal.number(),
-    }
-}
-
-pub fn put_progress(a: Result<Progress, Refusal>, out: &mut f32) -> u32
-    ensures { answering result out.new ≡ progress_in out.old a }
-{
-    match a {
-        Ok(p) => {
-            *out = p.0;
-            0
-        }
-        Err(refusal) => refusal.number(),
-    }
 }
 
 pub fn put_snapshot(a: Result<TweenSnapshot, Refusal>, out: &mut [u32; 5]) -> u32

@@ -2,11 +2,10 @@
 ghost use Rattle.std.specs.Prelude.{◌≡◌};
 ghost use Rattle.event_log.specs.Writing.{head_in};
 ghost use Rattle.capi.specs.Answers.{answering};
-ghost use Rattle.capi.specs.Logs.{event_in, length_in, lax_log_head, lax_log_record, lax_log_buffer};
+ghost use Rattle.capi.specs.Logs.{event_in, lax_log_head, lax_log_record, lax_log_buffer};
 
-use crate::answers::UNKNOWN_WORD;
+use crate::answers::{UNKNOWN_WORD, put};
 use event_log::{Event, write_head, write_record};
-use refusal::Refusal;
 
 // kind: 1 step, 2 pause, 3 resume, 4 reset. The step, in seconds, is looked at in 1.
 fn event_in(w: &[u32; 2]) -> Option<Event>
@@ -22,23 +21,11 @@ fn event_in(w: &[u32; 2]) -> Option<Event>
     }
 }
 
-fn put_length(logged: Result<usize, Refusal>, written: &mut usize) -> u32
-    ensures { answering result written.new ≡ length_in written.old logged }
-{
-    match logged {
-        Ok(length) => {
-            *written = length;
-            0
-        }
-        Err(refusal) => refusal.number(),
-    }
-}
-
 pub fn lax_log_head(buffer: &mut [u8], written: &mut usize) -> u32
     ensures answer { answering result written.new ≡ lax_log_head buffer.old written.old }
     ensures bytes { buffer.new ≡ (head_in buffer.old).buffer }
 {
-    put_length(write_head(buffer), written)
+    put(write_head(buffer), written)
 }
 
 // written: how long the log is, before and after.
@@ -47,7 +34,7 @@ pub fn lax_log_record(buffer: &mut [u8], written: &mut usize, event: &[u32; 2]) 
     ensures bytes { buffer.new ≡ lax_log_buffer buffer.old written.old event.now }
 {
     match event_in(event) {
-        Some(e) => put_length(write_record(buffer, *written, e), written),
+        Some(e) => put(write_record(buffer, *written, e), written),
         None => UNKNOWN_WORD,
     }
 }

@@ -45,6 +45,7 @@ fn put_replayed(sound: bool, replayed: Replayed, w: &mut [u32; 18], reached: &mu
     ensures words { w.new ≡ replayed_words sound w.old replayed }
     ensures place { reached.new ≡ replayed_reached reached.old replayed }
 {
+    // C's answer is the number, so that is what is asked below.
     let outcome = replayed.outcome;
     let number = outcome_number(outcome);
     let now = replayed.reached;

@@ -1,12 +1,26 @@
 // The calls of a track, lent as 518 words. Each answers 0, or the number of its refusal, and then it has
 // written nothing.
-ghost use Rattle.std.specs.Prelude.{◌≡◌};
-ghost use Rattle.capi.specs.Tracks.{lax_track_new, lax_track_push, eased_row, plain_row, lax_track_looping, lax_track_value_at, lax_track_value, lax_track_values_at, lax_track_active_time, lax_track_duration, lax_track_playback_duration, lax_track_progress, lax_track_is_complete, lax_track_reset, lax_track_seek_to, lax_track_update};
+ghost use Rattle.std.specs.Prelude.{◌≡◌, ◌∷◌, [], ℕ, List, length, MatchResult};
+ghost use Rattle.keyframe.specs.Inner.{push_outcome};
+ghost use Rattle.keyframe.specs.Limits.{base_of};
+ghost use Rattle.keyframe.specs.Sampling.{value_at_of};
+ghost use Rattle.words.specs.Lent.{clock_into, float_at, frame_at, loop_at};
+ghost use Rattle.words.specs.Modes.{flag_word, loop_from};
+ghost use Rattle.words.specs.Tracks.{frame_read};
+ghost use Rattle.track_words.specs.Checking.{check_of};
+ghost use Rattle.track_words.specs.Pushing.{stored_row};
+ghost use Rattle.track_words.specs.Reading.{track_of};
+ghost use Rattle.capi.specs.Answers.{accepted, faulted};
+ghost use Rattle.capi.specs.Tracks.{loop_into, lax_track_new, lax_track_push, eased_row, plain_row, lax_track_looping, lax_track_value_at, lax_track_value, lax_track_values_at, lax_track_active_time, lax_track_duration, lax_track_playback_duration, lax_track_progress, lax_track_is_complete, lax_track_reset, lax_track_seek_to, lax_track_update};
 
-use crate::answers::{UNKNOWN_WORD, store_found};
+use crate::answers::{UNKNOWN_WORD, put_flag, put_found};
+use bezier::Found;
+use frames::Keyframe;
 use keyframe::{Clock, Ticked};
-use track_words::check;
-use words::{flag_word, frame_in, loop_in, loop_of, read_frame};
+use loop_mode::Loop;
+use refusal::Refusal;
+use track_words::{Checked, check};
+use words::{Fault, flag_word, frame_in, loop_in, loop_of, read_frame};
 
 pub fn lax_track_new(w: &mut [u32; 518]) -> u32
     ensures number { result ≡ 0 }
@@ -16,6 +30,15 @@ pub fn lax_track_new(w: &mut [u32; 518]) -> u32
     0
 }
 
+// Whether the track takes the mode.
+fn takes_mode(w: &[u32; 518], looping: Loop) -> Result<(), Fault>
+    ensures { (m : List ℕ) → loop_from (loop_at m 0) ≡ Some looping → MatchResult result (λ _. accepted (loop_into w.now m) ≡ lax_track_looping w.now m) (λ fault. faulted w.now fault ≡ lax_track_looping w.now m) }
+{
+    let track = Checked::of(w)?;
+    keyframe::looping_outcome(looping, track.duration())?;
+    Ok(())
+}
+
 pub fn lax_track_looping(w: &mut [u32; 518], mode: &[u32; 2]) -> u32
     ensures number { result ≡ (lax_track_looping w.old mode.now).number }
     ensures words { w.new ≡ (lax_track_looping w.old mode.now).left }
@@ -23,12 +46,8 @@ pub fn lax_track_looping(w: &mut [u32; 518], mode: &[u32; 2]) -> u32
     let Some(looping) = loop_of(loop_in(mode)) else {
         return UNKNOWN_WORD;
     };
-    let number = check(w);
-    if number != 0 {
-        return number;
-    }
-    if let Err(refusal) = keyframe::looping_outcome(looping, track_words::duration(w)) {
-        return refusal.number();
+    if let Err(fault) = takes_mode(w, looping) {
+        return fault.number();
     }
     w[514] = mode[0];
     w[515] = mode[1];
@@ -36,122 +55,135 @@ pub fn lax_track_looping(w: &mut [u32; 518], mode: &[u32; 2]) -> u32
     0
 }
 
+// Two calls ask for it, each at a time of its own.
+fn sample(track: Checked<'_>, secs: f32) -> Result<Found, Refusal>
+    ensures { result ≡ value_at_of (track_of track.entry.words.now) secs }
+{
+    keyframe::sample_outcome(track_words::count(track.words))?;
+    Ok(track.value_at(secs))
+}
+
 pub fn lax_track_value_at(w: &[u32; 518], secs: f32, out: &mut [u32; 4]) -> u32
     ensures number { result ≡ (lax_track_value_at w.now secs out.old).number }
     ensures words { out.new ≡ (lax_track_value_at w.now secs out.old).left }
 {
-    let number = check(w);
-    if number != 0 {
-        return number;
+    match Checked::of(w) {
+        Ok(track) => put_found(sample(track, secs), out),
+        Err(fault) => fault.number(),
     }
-    if let Err(refusal) = keyframe::sample_outcome(track_words::count(w)) {
-        return refusal.number();
-    }
-    store_found(track_words::value_at(w, secs), out);
-    0
 }
 
 pub fn lax_track_value(w: &[u32; 518], out: &mut [u32; 4]) -> u32
     ensures number { result ≡ (lax_track_value w.now out.old).number }
     ensures words { out.new ≡ (lax_track_value w.now out.old).left }
 {
-    let number = check(w);
-    if number != 0 {
-        return number;
+    match Checked::of(w) {
+        Ok(track) => put_found(sample(track, track.active_time()), out),
+        Err(fault) => fault.number(),
     }
-    if let Err(refusal) = keyframe::sample_outcome(track_words::count(w)) {
-        return refusal.number();
-    }
-    store_found(track_words::value_at(w, track_words::active_time(w)), out);
-    0
 }
 
 pub fn lax_track_active_time(w: &[u32; 518], out: &mut f32) -> u32
     ensures number { result ≡ (lax_track_active_time w.now out.old).number }
     ensures place { out.new ≡ (lax_track_active_time w.now out.old).left }
 {
-    let number = check(w);
-    if number != 0 {
-        return number;
+    match Checked::of(w) {
+        Ok(track) => {
+            *out = track.active_time();
+            0
+        }
+        Err(fault) => fault.number(),
     }
-    *out = track_words::active_time(w);
-    0
 }
 
 pub fn lax_track_duration(w: &[u32; 518], out: &mut f32) -> u32
     ensures number { result ≡ (lax_track_duration w.now out.old).number }
     ensures place { out.new ≡ (lax_track_duration w.now out.old).left }
 {
-    let number = check(w);
-    if number != 0 {
-        return number;
+    match Checked::of(w) {
+        Ok(track) => {
+            *out = track.duration();
+            0
+        }
+        Err(fault) => fault.number(),
     }
-    *out = track_words::duration(w);
-    0
 }
 
 pub fn lax_track_playback_duration(w: &[u32; 518], out: &mut f32) -> u32
     ensures number { result ≡ (lax_track_playback_duration w.now out.old).number }
     ensures place { out.new ≡ (lax_track_playback_duration w.now out.old).left }
 {
-    let number = check(w);
-    if number != 0 {
-        return number;
+    match Checked::of(w) {
+        Ok(track) => {
+            *out = track.playback_duration();
+            0
+        }
+        Err(fault) => fault.number(),
     }
-    *out = track_words::playback_duration(w);
-    0
 }
 
 pub fn lax_track_progress(w: &[u32; 518], out: &mut f32) -> u32
     ensures number { result ≡ (lax_track_progress w.now out.old).number }
     ensures place { out.new ≡ (lax_track_progress w.now out.old).left }
 {
-    let number = check(w);
-    if number != 0 {
-        return number;
+    match Checked::of(w) {
+        Ok(track) => {
+            *out = track.progress();
+            0
+        }
+        Err(fault) => fault.number(),
     }
-    *out = track_words::progress(w);
-    0
 }
 
 pub fn lax_track_is_complete(w: &[u32; 518], out: &mut u32) -> u32
     ensures number { result ≡ (lax_track_is_complete w.now out.old).number }
     ensures place { out.new ≡ (lax_track_is_complete w.now out.old).left }
 {
-    let number = check(w);
-    if number != 0 {
-        return number;
+    match Checked::of(w) {
+        Ok(track) => put_flag(track_words::is_done(track.words), out),
+        Err(fault) => fault.number(),
     }
-    *out = flag_word(track_words::is_done(w));
-    0
 }
 
 pub fn lax_track_reset(w: &mut [u32; 518]) -> u32
     ensures number { result ≡ (lax_track_reset w.old).number }
     ensures words { w.new ≡ (lax_track_reset w.old).left }
 {
-    let number = check(w);
-    if number != 0 {
-        return number;
+    if let Err(fault) = check(w) {
+        return fault.number();
     }
     track_words::store_clock(w, Clock::new(0.0, 0, false));
     0
+}
+
+// What a seek would leave.
+fn sought(w: &[u32; 518], p: f32) -> Result<Clock, Fault>
+    ensures { MatchResult result (λ clock. accepted (clock_into w.now clock) ≡ lax_track_seek_to w.now p) (λ fault. faulted w.now fault ≡ lax_track_seek_to w.now p) }
+{
+    let track = Checked::of(w)?;
+    keyframe::seek_outcome(p)?;
+    Ok(track.seek(math::clamp01(p)))
 }
 
 pub fn lax_track_seek_to(w: &mut [u32; 518], p: f32) -> u32
     ensures number { result ≡ (lax_track_seek_to w.old p).number }
     ensures words { w.new ≡ (lax_track_seek_to w.old p).left }
 {
-    let number = check(w);
-    if number != 0 {
-        return number;
+    match sought(w, p) {
+        Ok(clock) => {
+            track_words::store_clock(w, clock);
+            0
+        }
+        Err(fault) => fault.number(),
     }
-    if let Err(refusal) = keyframe::seek_outcome(p) {
-        return refusal.number();
-    }
-    let c = track_words::seek(w, math::clamp01(p));
-    track_words::store_clock(w, c);
-    0
+}
+
+// What a step would leave.
+fn ticked(w: &[u32; 518], step: f32) -> Result<Ticked, Fault>
+    ensures { (out : ℕ) → MatchResult result (λ t. accepted (record { words = clock_into w.now t.clock; running = flag_word t.running }) ≡ lax_track_update w.now step out) (λ fault. faulted (record { words = w.now; running = out }) fault ≡ lax_track_update w.now step out) }
+{
+    let track = Checked::of(w)?;
+    Ok(track.tick(step)?)
 }
 
 // running: 1 where the track is not complete, and has two frames or more.
@@ -160,18 +192,24 @@ pub fn lax_track_update(w: &mut [u32; 518], step: f32, out: &mut u32) -> u32
     ensures words { w.new ≡ (lax_track_update w.old step out.old).left.words }
     ensures place { out.new ≡ (lax_track_update w.old step out.old).left.running }
 {
-    let number = check(w);
-    if number != 0 {
-        return number;
-    }
-    match track_words::tick(w, step) {
+    match ticked(w, step) {
         Ok(Ticked { clock, running }) => {
             track_words::store_clock(w, clock);
             *out = flag_word(running);
             0
         }
-        Err(refusal) => refusal.number(),
+        Err(fault) => fault.number(),
     }
+}
+
+// Whether the track takes the frame, if there is room.
+fn takes_frame(w: &[u32; 518], k: Keyframe, time: f32) -> Result<(), Fault>
+    ensures { MatchResult result (λ _. (check_of w.now ≡ 0) × (let t = track_of w.now in Ok tt ≡ push_outcome k.easing t.looping (base_of t) time k.value)) (λ fault. (row : List ℕ) → frame_read (frame_at row 0) ≡ Some k → time ≡ float_at (stored_row row) 0 → faulted w.now fault ≡ lax_track_push w.now row) }
+{
+    let track = Checked::of(w)?;
+    let easing = k.easing;
+    track.push_outcome(easing, time, k.value)?;
+    Ok(())
 }
 
 // A frame at the time of another replaces it.
@@ -182,15 +220,9 @@ fn push_row(w: &mut [u32; 518], row: &[u32; 8]) -> u32
     let Some(k) = read_frame(frame_in(row)) else {
         return UNKNOWN_WORD;
     };
-    let number = check(w);
-    if number != 0 {
-        return number;
-    }
-    let easing = k.easing;
     let stored = track_words::stored_row(row);
-    let time = math::of_bits(stored[0]);
-    if let Err(refusal) = track_words::push_outcome(w, easing, time, k.value) {
-        return refusal.number();
+    if let Err(fault) = takes_frame(w, k, math::of_bits(stored[0])) {
+        return fault.number();
     }
     let full = !track_words::put(w, &stored);
     if let Err(refusal) = keyframe::room_outcome(full) {
@@ -231,6 +263,14 @@ pub fn lax_track_push_frame(w: &mut [u32; 518], k: &[u32; 8]) -> u32
     push_row(w, k)
 }
 
+fn fill_checked(w: &[u32; 518], times: &[f32], out: &mut [f32]) -> Result<usize, Fault>
+    ensures { (came : List ℕ) → MatchResult result (λ n. accepted (record { out = out.new; filled = length times.now ∷ n ∷ [] }) ≡ lax_track_values_at w.now times.now out.old came) (λ fault. faulted (record { out = out.new; filled = came }) fault ≡ lax_track_values_at w.now times.now out.old came) }
+{
+    let track = Checked::of(w)?;
+    keyframe::fill_outcome(track_words::count(w), times.len(), out.len())?;
+    Ok(track.fill(times, out))
+}
+
 // The value at each time goes into the front of out. filled: how many were written, and how many of them
 // are not settled.
 pub fn lax_track_values_at(
@@ -243,15 +283,11 @@ pub fn lax_track_values_at(
     ensures output { out.new ≡ (lax_track_values_at w.now times.now out.old filled.old).left.out }
     ensures places { filled.new ≡ (lax_track_values_at w.now times.now out.old filled.old).left.filled }
 {
-    let number = check(w);
-    if number != 0 {
-        return number;
+    match fill_checked(w, times, out) {
+        Ok(unsettled) => {
+            *filled = [times.len(), unsettled];
+            0
+        }
+        Err(fault) => fault.number(),
     }
-    let outcome = keyframe::fill_outcome(track_words::count(w), times.len(), out.len());
-    if let Err(refusal) = outcome {
-        return refusal.number();
-    }
-    let unsettled = track_words::fill(w, times, out);
-    *filled = [times.len(), unsettled];
-    0
 }

@@ -1,12 +1,12 @@
-// The calls of a tween, lent as 18 words.
+// The calls of a tween, lent as 18 words. Each is a match on the tween that is read: a closure in its place would
+// have to capture the words or the place that the call writes, and say no less.
 ghost use Rattle.std.specs.Prelude.{◌≡◌};
 ghost use Rattle.capi.specs.Answers.{answering, accepted};
 ghost use Rattle.capi.specs.Tweens.{lax_tween_new, lax_tween_value, lax_tween_progress, lax_tween_eased_progress, lax_tween_snapshot, lax_tween_playback_duration, lax_tween_reset, lax_tween_seek, lax_tween_reverse, lax_tween_pause, lax_tween_resume, lax_tween_update, ran_words, ran_out, lax_tween_run};
 ghost use Rattle.steps.specs.Course.{outcome_number};
 
 use crate::answers::{
-    UNKNOWN_WORD, outcome_number, put_found, put_plain, put_progress, put_seconds, put_snapshot,
-    put_tween,
+    UNKNOWN_WORD, outcome_number, put, put_found, put_plain, put_snapshot, put_tween,
 };
 use steps::{Run, run_steps};
 use tween::{Tween, Updated};
@@ -67,7 +67,7 @@ pub fn lax_tween_progress(w: &[u32; 18], out: &mut f32) -> u32
     ensures { answering result out.new ≡ lax_tween_progress w.now out.old }
 {
     match tween_of(tween_in(w)) {
-        Some(t) => put_progress(t.progress(), out),
+        Some(t) => put(t.progress().map(|p| p.0), out),
         None => UNKNOWN_WORD,
     }
 }
@@ -94,7 +94,7 @@ pub fn lax_tween_playback_duration(w: &[u32; 18], out: &mut f32) -> u32
     ensures { answering result out.new ≡ lax_tween_playback_duration w.now out.old }
 {
     match tween_of(tween_in(w)) {
-        Some(t) => put_seconds(t.playback_duration(), out),
+        Some(t) => put(t.playback_duration().map(|s| s.0), out),
         None => UNKNOWN_WORD,
     }
 }
@@ -185,6 +185,7 @@ fn put_run(run: Run, w: &mut [u32; 18], out: &mut [usize; 2]) -> u32
     ensures words { w.new ≡ ran_words w.old run }
     ensures counts { out.new ≡ ran_out out.old run }
 {
+    // C's answer is the number, so that is what is asked below.
     let outcome = run.outcome;
     let number = outcome_number(outcome);
     if run.done == 0 {

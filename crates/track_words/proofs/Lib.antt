@@ -1,5 +1,5 @@
 -- Laws that the functions' proofs cite.
-pub mod Checked
+pub mod Passed
 pub mod Entered
 pub mod Moved
 pub mod Over

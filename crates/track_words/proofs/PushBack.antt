@@ -28,7 +28,7 @@ use Rattle.words.proofs.Known.{all-places}
 use Rattle.track_words.specs.Pushing.{has_room, place_of, push_into, replaces, stored_row}
 use Rattle.track_words.specs.Reading.{frame_in, frames_of, track_of}
 use Rattle.track_words.specs.Promises.{Pushable, PushBack, PushFrames}
-use Rattle.track_words.proofs.Checked.{passed-few}
+use Rattle.track_words.proofs.Passed.{passed-few}
 use Rattle.track_words.proofs.Entered.{Headed, words_in, replacing, inserting, replaced-front, replaced-here, replaced-back, replaced-head, inserted-front, inserted-here, inserted-back, inserted-head}
 use Rattle.track_words.proofs.Placed.{length-firsts, firsts_at, take-firsts, map-firsts}
 use Rattle.track_words.proofs.Spliced.{has_time, spliced, by_place, pushed-spliced, firsts-spliced}

@@ -3,13 +3,11 @@ use Rattle.std.specs.Prelude.{Err, Ok, Some, Option, Result, Bool, cond, None}
 use Prim.Native.Nat.{ℕ}
 use native.Mathlib.Omega.{arith}
 use mathlib.Core.Path.{◌≡◌, refl, sym, ◌∙◌, ap}
-use mathlib.Core.Bool.{true, false, false≢true}
+use mathlib.Core.Bool.{true, false}
 use mathlib.Core.List.{List}
 use lib.Dec.{leb}
 use lib.ListN.{length}
 use Rattle.math.proofs.Choice.{by-test}
-use Rattle.refusal.specs.declared.Refusal.{Refusal}
-use Rattle.refusal.specs.declared.Refusal.TheVariants.{RecordBreaksLimit, EasingNotSupplied, EasingParameter, TrackLimit, TrackFull}
 use Rattle.easing.specs.Kinds.{supplied_of}
 use Rattle.easing.specs.Params as params
 use Rattle.frames.specs.declared.frame.Keyframe.{Keyframe}
@@ -21,10 +19,10 @@ use Rattle.keyframe.specs.Pushing.{placed_of, push_of, stored_of, takes_of, with
 use Rattle.track_words.specs.Pushing.{has_room, stored_row}
 use Rattle.track_words.specs.Reading.{track_of}
 use Rattle.track_words.specs.Promises.{Pushable, PushDone}
-use Rattle.track_words.proofs.Checked.{passed-few, passed-frames}
+use Rattle.track_words.proofs.Passed.{passed-few, passed-frames}
 use Rattle.track_words.proofs.PushBack.{push-back, stored_is, time-is}
 use Rattle.track_words.proofs.Rows.{room-is}
-use Rattle.refusal.specs.Refusing.{done, outcome_of, rejected}
+use Rattle.refusal.specs.Refusing.{done, outcome_of}
 use Rattle.refusal.specs.declared.rejected.Rejected.{Rejected}
 
 -- what is done is done with frames that found their places

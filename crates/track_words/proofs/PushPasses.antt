@@ -22,7 +22,7 @@ use Rattle.track_words.specs.Checking.{check_of}
 use Rattle.track_words.specs.Pushing.{push_into, stored_row}
 use Rattle.track_words.specs.Reading.{track_of}
 use Rattle.track_words.specs.Promises.{PushPasses}
-use Rattle.track_words.proofs.Checked.{passed-few, passed-known, passed-within}
+use Rattle.track_words.proofs.Passed.{passed-few, passed-known, passed-within}
 use Rattle.track_words.proofs.Entered.{words_in}
 use Rattle.track_words.proofs.Placed.{take-firsts}
 use Rattle.track_words.proofs.PushBack.{KnownAt, taken}

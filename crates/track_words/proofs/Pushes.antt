@@ -1,5 +1,5 @@
 -- The cases of a push into words that pass the check. Assumes nothing.
-use Rattle.std.specs.Prelude.{Err, Ok, Some, None}
+use Rattle.std.specs.Prelude.{Err, Some, None}
 use Prim.Native.Nat.{ℕ}
 use mathlib.Core.Path.{◌≡◌, refl, ◌∙◌}
 use mathlib.Core.Bool.{Bool, true, false, cond}
@@ -18,7 +18,7 @@ use Rattle.words.specs.Lent.{float_at}
 use Rattle.track_words.specs.Checking.{check_of}
 use Rattle.track_words.specs.Pushing.{has_room}
 use Rattle.track_words.specs.Reading.{track_of}
-use Rattle.track_words.proofs.Checked.{passed-few, passed-frames, passed-within}
+use Rattle.track_words.proofs.Passed.{passed-few, passed-frames, passed-within}
 use Rattle.track_words.proofs.Rows.{room-is}
 use Rattle.refusal.specs.Refusing.{done, outcome_of}
 

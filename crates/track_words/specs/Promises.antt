@@ -3,7 +3,7 @@ use Rattle.std.specs.Prelude.{ℕ, ◌≡◌, true, List, length, Ok, Some}
 use Rattle.frames.specs.declared.frame.Keyframe.{Keyframe}
 use Rattle.frames.specs.Pushing.{pushed_of, put_of}
 use Rattle.keyframe.specs.Limits.{frames_in}
-use Rattle.keyframe.specs.Pushing.{push_of, stored_of, with_frames, left_by, placed_of}
+use Rattle.keyframe.specs.Pushing.{push_of, stored_of, left_by, placed_of}
 use Rattle.words.specs.Lent.{frame_at}
 use Rattle.words.specs.Tracks.{frame_read}
 use Rattle.track_words.specs.Checking.{check_of}

@@ -1,7 +1,6 @@
 // Whether a track's words may be used.
 ghost use Rattle.std.specs.Prelude.{◌≡◌, ◌≤◌, take};
-ghost use Rattle.refusal.specs.declared.Refusal.TheVariants.{RecordBreaksLimit};
-ghost use Rattle.refusal.specs.Number.{number_of};
+ghost use Rattle.words.specs.Faults.{faulted_number};
 ghost use Rattle.words.specs.Lent.{easing_at, track_in};
 ghost use Rattle.words.specs.Sampling.{easing_fits};
 ghost use Rattle.words.specs.Tracks.{known_kinds};
@@ -10,7 +9,7 @@ ghost use Rattle.track_words.specs.Inner.{head_of, sound_of};
 
 use crate::reading::{easing_at, elapsed, last_time, looping, wide, word_at};
 use refusal::Refusal;
-use words::UNKNOWN_WORD;
+use words::Fault;
 
 // The first 13 kinds have no parameters: the commonest are told by one test, and CubicBezier with no
 // easing built.
@@ -67,28 +66,22 @@ fn kinds_known(w: &[u32; 518], n: usize) -> bool
     true
 }
 
-fn breaks_limit() -> u32
-    ensures { result ≡ number_of RecordBreaksLimit }
-{
-    Refusal::RecordBreaksLimit.number()
-}
-
 // What is left to ask where the frames fit.
-fn check_head(w: &[u32; 518], base: f32) -> u32
-    ensures { result ≡ head_of w.now base }
+fn check_head(w: &[u32; 518], base: f32) -> Result<(), Fault>
+    ensures { faulted_number result ≡ head_of w.now base }
 {
     if word_at(w, 514) < 5 {
         if keyframe::clock_fits(elapsed(w), looping(w), base) {
-            return 0;
+            return Ok(());
         }
-        return breaks_limit();
+        return Err(Fault::Refused(Refusal::RecordBreaksLimit));
     }
-    UNKNOWN_WORD
+    Err(Fault::UnknownWord)
 }
 
-// 0; 100 where a word is no kind or no mode; 4 where the track breaks a limit.
-pub fn check(w: &[u32; 518]) -> u32
-    ensures { result ≡ check_of w.now }
+// Unknown where a word is no kind or no mode; refused where the track breaks a limit.
+pub fn check(w: &[u32; 518]) -> Result<(), Fault>
+    ensures { faulted_number result ≡ check_of w.now }
 {
     let count = wide(word_at(w, 512));
     if count <= 64 {
@@ -97,7 +90,7 @@ pub fn check(w: &[u32; 518]) -> u32
         }
     }
     if kinds_known(w, words::places(count)) & (word_at(w, 514) < 5) {
-        return breaks_limit();
+        return Err(Fault::Refused(Refusal::RecordBreaksLimit));
     }
-    UNKNOWN_WORD
+    Err(Fault::UnknownWord)
 }

@@ -2,6 +2,7 @@
 // count, elapsed, mode, passes, loop_count, complete. Frames are looked at where they stand.
 #![tactic(auto)]
 
+mod checked;
 mod checking;
 mod filling;
 mod playing;
@@ -9,10 +10,7 @@ mod pushing;
 mod reading;
 mod sampling;
 
+pub use checked::Checked;
 pub use checking::check;
-pub use filling::fill;
-pub use playing::{
-    active_time, count, duration, is_done, playback_duration, progress, seek, store_clock, tick,
-    value_at,
-};
-pub use pushing::{push_outcome, put, stored_row};
+pub use playing::{count, is_done, store_clock};
+pub use pushing::{put, stored_row};

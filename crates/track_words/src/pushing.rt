@@ -10,7 +10,8 @@ ghost use Rattle.track_words.specs.Inner.{raised_by, row_into};
 ghost use Rattle.track_words.specs.Pushing.{has_room, push_into, stored_row};
 ghost use Rattle.track_words.specs.Reading.{frames_of, track_of};
 
-use crate::playing::{count, duration};
+use crate::checked::Checked;
+use crate::playing::count;
 use crate::reading::{float_at, looping};
 use easing::Easing;
 use refusal::Refusal;
@@ -32,12 +33,13 @@ pub fn stored_row(row: &[u32; 8]) -> [u32; 8]
     [time, row[1], row[2], row[3], row[4], row[5], row[6], row[7]]
 }
 
-// Whether a frame with this easing, time and value may go in, if there is room.
-pub fn push_outcome(w: &[u32; 518], easing: Easing, time: f32, value: f32) -> Result<(), Refusal>
-    requires { check_of w.now ≡ 0 }
-    ensures { let t = track_of w.now in result ≡ push_outcome easing t.looping (base_of t) time value }
-{
-    keyframe::push_outcome(easing, looping(w), duration(w), time, value)
+impl Checked<'_> {
+    // Whether a frame with this easing, time and value may go in, if there is room.
+    pub fn push_outcome(self, easing: Easing, time: f32, value: f32) -> Result<(), Refusal>
+        ensures { let t = track_of self.entry.words.now in result ≡ push_outcome easing t.looping (base_of t) time value }
+    {
+        keyframe::push_outcome(easing, looping(self.words), self.duration(), time, value)
+    }
 }
 
 // How many of the first n frames, from the front, are before the time.

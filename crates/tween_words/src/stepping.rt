@@ -49,6 +49,7 @@ pub struct Stepped {
     pub running: bool,
 }
 
+// mode and flag are the words that C lends: no `Loop` is built on the common way.
 fn turned(mode: u32, limit: u32, count: u32, flag: u32) -> Turn
     requires { (count ≤ 16777216) × (flag ≤ 1) }
     ensures { result ≡ turn_of (loop_in (loop_from (record { mode = mode; passes = limit }))) count flag }

@@ -1,4 +1,5 @@
 pub mod Kinds
+pub mod Faults
 pub mod Modes
 pub mod Tweens
 pub mod Tracks

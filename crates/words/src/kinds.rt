@@ -27,6 +27,7 @@ pub fn is_kind(kind: u32) -> bool
     kind < KINDS
 }
 
+// An Option, as of all that is read from words: a `TryFrom` would need an error that says no more than None.
 pub fn easing_of(w: LaxEasing) -> Option<Easing>
     ensures { result ≡ easing_from w }
 {
@@ -37,16 +38,25 @@ pub fn easing_of(w: LaxEasing) -> Option<Easing>
     None
 }
 
+// docs/CONTRACTS.md, c-words, has this and `tween_words` by name.
 pub fn easing_words(e: Easing) -> LaxEasing
     ensures { result ≡ easing_words e }
 {
-    let p = easing::params_of(e);
-    LaxEasing {
-        kind: e.kind_number(),
-        a: p.a,
-        b: p.b,
-        c: p.c,
-        d: p.d,
-        count: p.count,
+    LaxEasing::from(e)
+}
+
+impl From<Easing> for LaxEasing {
+    ghost from_gives = { λ e words. words ≡ easing_words e };
+
+    fn from(e: Easing) -> LaxEasing {
+        let p = easing::params_of(e);
+        LaxEasing {
+            kind: e.kind_number(),
+            a: p.a,
+            b: p.b,
+            c: p.c,
+            d: p.d,
+            count: p.count,
+        }
     }
 }

@@ -28,15 +28,17 @@ pub fn loop_of(w: LaxLoop) -> Option<Loop>
     }
 }
 
-pub fn loop_words(l: Loop) -> LaxLoop
-    ensures { result ≡ loop_words l }
-{
-    match l {
-        Loop::Once => LaxLoop { mode: 0, passes: 0 },
-        Loop::Times(n) => LaxLoop { mode: 1, passes: n },
-        Loop::Forever => LaxLoop { mode: 2, passes: 0 },
-        Loop::PingPong => LaxLoop { mode: 3, passes: 0 },
-        Loop::PingPongTimes(n) => LaxLoop { mode: 4, passes: n },
+impl From<Loop> for LaxLoop {
+    ghost from_gives = { λ l words. words ≡ loop_words l };
+
+    fn from(l: Loop) -> LaxLoop {
+        match l {
+            Loop::Once => LaxLoop { mode: 0, passes: 0 },
+            Loop::Times(n) => LaxLoop { mode: 1, passes: n },
+            Loop::Forever => LaxLoop { mode: 2, passes: 0 },
+            Loop::PingPong => LaxLoop { mode: 3, passes: 0 },
+            Loop::PingPongTimes(n) => LaxLoop { mode: 4, passes: n },
+        }
     }
 }
 
@@ -53,6 +55,7 @@ pub fn state_of(w: u32) -> Option<TweenState>
     }
 }
 
+// No `From`: the state and the word are both other crates' types.
 pub fn state_word(s: TweenState) -> u32
     ensures { result ≡ state_word s }
 {
@@ -68,5 +71,5 @@ pub fn state_word(s: TweenState) -> u32
 pub fn flag_word(b: bool) -> u32
     ensures { result ≡ flag_word b }
 {
-    if b { 1 } else { 0 }
+    u32::from(b)
 }

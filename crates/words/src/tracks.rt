@@ -3,8 +3,8 @@ ghost use Rattle.std.specs.Prelude.{◌≡◌, ◌≤◌};
 ghost use Rattle.words.specs.Modes.{loop_from};
 ghost use Rattle.words.specs.Tracks.{lax_frame, places_in, loop_in, frame_from, frame_read, frames_from, track_from, known_track, frame_words, frames_words, track_words};
 
-use crate::kinds::{LaxEasing, easing_of, easing_words, is_kind};
-use crate::modes::{LaxLoop, flag_word, loop_of, loop_words};
+use crate::kinds::{LaxEasing, easing_of, is_kind};
+use crate::modes::{LaxLoop, flag_word, loop_of};
 use easing::Easing;
 use frames::Keyframe;
 use keyframe::Track;
@@ -120,11 +120,13 @@ pub fn track_of(w: LaxTrack) -> Track
     }
 }
 
-pub fn frame_words(k: Keyframe) -> LaxKeyframe
-    ensures { result ≡ frame_words k }
-{
-    let easing = k.easing;
-    LaxKeyframe::new(k.time, k.value, easing_words(easing))
+impl From<Keyframe> for LaxKeyframe {
+    ghost from_gives = { λ k words. words ≡ frame_words k };
+
+    fn from(k: Keyframe) -> LaxKeyframe {
+        let easing = k.easing;
+        LaxKeyframe::new(k.time, k.value, LaxEasing::from(easing))
+    }
 }
 
 // Over the places that came.
@@ -134,11 +136,12 @@ fn frames_words(came: [LaxKeyframe; 64], frames: [Keyframe; 64], count: usize) -
     let mut words = came;
     let n = places(count);
     for i in 0..n {
-        words[i] = frame_words(frames[i]);
+        words[i] = LaxKeyframe::from(frames[i]);
     }
     words
 }
 
+// No `From`: the places that came are a second argument.
 pub fn track_words(came: [LaxKeyframe; 64], t: Track) -> LaxTrack
     ensures { result ≡ track_words came t }
 {
@@ -149,7 +152,7 @@ pub fn track_words(came: [LaxKeyframe; 64], t: Track) -> LaxTrack
         frames,
         count: places(t.count) as u32,
         elapsed: t.elapsed,
-        looping: loop_words(looping),
+        looping: LaxLoop::from(looping),
         loop_count: t.loop_count,
         complete: flag_word(t.complete),
     }

@@ -2,8 +2,8 @@
 ghost use Rattle.std.specs.Prelude.{◌≡◌};
 ghost use Rattle.words.specs.Tweens.{tween_from, tween_words};
 
-use crate::kinds::{LaxEasing, easing_of, easing_words};
-use crate::modes::{LaxLoop, flag_word, loop_of, loop_words, state_of, state_word};
+use crate::kinds::{LaxEasing, easing_of};
+use crate::modes::{LaxLoop, flag_word, loop_of, state_of, state_word};
 use tween::Tween;
 
 #[repr(C)]
@@ -48,21 +48,29 @@ pub fn tween_of(w: LaxTween) -> Option<Tween>
 pub fn tween_words(t: Tween) -> LaxTween
     ensures { result ≡ tween_words t }
 {
-    let easing = t.easing;
-    let looping = t.looping;
-    let state = t.state;
-    LaxTween {
-        start: t.start,
-        end: t.end,
-        duration: t.duration,
-        easing: easing_words(easing),
-        delay: t.delay,
-        time_scale: t.time_scale,
-        looping: loop_words(looping),
-        elapsed: t.elapsed,
-        delay_elapsed: t.delay_elapsed,
-        state: state_word(state),
-        loop_count: t.loop_count,
-        ping_pong_reverse: flag_word(t.ping_pong_reverse),
+    LaxTween::from(t)
+}
+
+impl From<Tween> for LaxTween {
+    ghost from_gives = { λ t words. words ≡ tween_words t };
+
+    fn from(t: Tween) -> LaxTween {
+        let easing = t.easing;
+        let looping = t.looping;
+        let state = t.state;
+        LaxTween {
+            start: t.start,
+            end: t.end,
+            duration: t.duration,
+            easing: LaxEasing::from(easing),
+            delay: t.delay,
+            time_scale: t.time_scale,
+            looping: LaxLoop::from(looping),
+            elapsed: t.elapsed,
+            delay_elapsed: t.delay_elapsed,
+            state: state_word(state),
+            loop_count: t.loop_count,
+            ping_pong_reverse: flag_word(t.ping_pong_reverse),
+        }
     }
 }

@@ -1,5 +1,5 @@
 -- `frames_fit` meets its contract. The invariant: the frames from i on, after the time whose pattern is 1 below `above`, are sound where all are. Assumes nothing.
-use Prim.Native.Nat.{◌-◌, ◌≤◌}
+use Prim.Native.Nat.{◌≤◌}
 use mathlib.Core.Path.{◌≡◌}
 use Rattle.track_words.specs.Inner.{sound_of}
 use Rattle.track_words.proofs.Sound.{sound_from}

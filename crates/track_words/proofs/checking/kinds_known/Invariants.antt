@@ -1,5 +1,5 @@
 -- `kinds_known` meets its contract. The invariant: the kinds from place i on decide. Assumes nothing.
-use Prim.Native.Nat.{◌≤◌, ◌-◌}
+use Prim.Native.Nat.{◌≤◌}
 use mathlib.Core.Path.{◌≡◌}
 use lib.ListN.{take, drop}
 use Rattle.words.specs.Lent.{track_in}

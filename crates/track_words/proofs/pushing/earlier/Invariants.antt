@@ -1,5 +1,5 @@
 -- `earlier` meets its contract. The invariant: i frames are passed, and those that follow them are counted from i on. Assumes nothing.
-use Prim.Native.Nat.{◌≤◌, ◌-◌, ◌+◌}
+use Prim.Native.Nat.{◌≤◌, ◌+◌}
 use mathlib.Core.Path.{◌≡◌}
 use lib.ListN.{take, drop}
 use Rattle.frames.specs.Inner.{earlier_of}

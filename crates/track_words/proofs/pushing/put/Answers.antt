@@ -7,7 +7,7 @@ use borrow.Author.Rules.{rules}
 use lib.Ieee.{eq}
 use Rattle.words.specs.Lent.{word_at, float_at}
 use Rattle.track_words.specs.Pushing.{place_of, replaces}
-use Rattle.track_words.proofs.Checked.{passed-few}
+use Rattle.track_words.proofs.Passed.{passed-few}
 use Rattle.track_words.proofs.Rows.{same-room, same-words, other-time, other-end, new-room, new-words, no_room}
 use Rattle.track_words.proofs.pushing.put.Goals as goal
 use Rattle.track_words.proofs.pushing.put.Goals.{After-count-n, After-earlier-p, Joined-p-n, then-p-n+else-float_at-time, else-p-n}

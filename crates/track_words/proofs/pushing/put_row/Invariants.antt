@@ -1,5 +1,5 @@
 -- `put_row` meets its contract. The invariant: j words of the row are in their places. Assumes nothing.
-use Prim.Native.Nat.{◌≤◌, ◌-◌}
+use Prim.Native.Nat.{◌≤◌}
 use mathlib.Core.Path.{◌≡◌}
 use Rattle.track_words.specs.Inner.{row_into}
 use Rattle.track_words.proofs.pushing.put_row.Given as goal

@@ -1,5 +1,5 @@
 -- `interval` meets its contract. The invariant: what is counted and what is left to count make the whole count. Assumes nothing.
-use Prim.Native.Nat.{◌+◌, ◌-◌, ◌<◌, ◌≤◌}
+use Prim.Native.Nat.{◌+◌, ◌<◌, ◌≤◌}
 use mathlib.Core.Path.{◌≡◌}
 use lib.ListN.{take, drop}
 use lib.Ieee.{Float, le}

@@ -1,5 +1,5 @@
 -- `frames_of` meets its contract. The invariant: the first i places hold their frames. Assumes nothing.
-use Prim.Native.Nat.{◌≤◌, ◌-◌}
+use Prim.Native.Nat.{◌≤◌}
 use mathlib.Core.Path.{◌≡◌}
 use lib.ListN.{length}
 use Rattle.frames.proofs.Fills.{fill_to}

@@ -15,7 +15,7 @@ pub loop-i-preserved : goal.loop-i-preserved
 unfolding frames_words fill_to
 loop-i-preserved c = let t = c.args.frames in let l : length t ≡ 64 = c.well_formed.1.0.1.0.1 in
     let k : length c.args.came ≡ 64 = c.well_formed.0.1.0.1 in
-    (omega arith, simp length-set c.loop-i.invariant.1, rw (c.frame_words.ensures, c.loop-i.invariant.2) (fill_more frame_words _ t _ (omega arith) c.loop-i.i (omega arith)))
+    (omega arith, simp length-set c.loop-i.invariant.1, rw (c.from.ensures, c.loop-i.invariant.2) (fill_more frame_words _ t _ (omega arith) c.loop-i.i (omega arith)))
 
 pub returns : goal.returns
 unfolding frames_words fill_to

@@ -7,10 +7,6 @@ use Rattle.words.specs.Tracks.{known_track}
 use Rattle.words.proofs.Known.{words_long, known_step, known-end}
 use Rattle.words.proofs.tracks.is_known.Goals as goal
 
-pub loop-i-init : goal.loop-i-init
-unfolding known_track
-loop-i-init c = (omega arith, refl)
-
 pub loop-i-preserved : goal.loop-i-preserved
 unfolding known_track
 loop-i-preserved c = let w = c.args.w in let l : length w.frames ≡ 64 = words_long w _ c.well_formed.0 in

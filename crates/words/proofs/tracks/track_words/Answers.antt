@@ -4,4 +4,4 @@ use Rattle.words.proofs.tracks.track_words.Goals as goal
 
 pub returns : goal.returns
 unfolding track_words
-returns c = simp (c.frames_words-frames.ensures, c.places.ensures.1, c.loop_words.ensures, c.flag_word.ensures)
+returns c = simp (c.frames_words-frames.ensures, c.places.ensures.1, c.from.ensures, c.flag_word.ensures)
