@@ -18,8 +18,7 @@ returns-then-not-is_due c = folds-done _ _ _ _ _ c.is_due.ensures (ap not c.if-n
 
 pub loop-turn-preserved : goal.loop-turn-preserved
 loop-turn-preserved c =
-    let less : 4096 - (c.loop-turn.turn + 1) ≡ 4096 - c.loop-turn.turn - 1 = omega arith in
-    (
+    let less : 4096 - (c.loop-turn.turn + 1) ≡ 4096 - c.loop-turn.turn - 1 = omega arith in (
       rw less (folds-next _ _ _ _ _ _ c.is_due.ensures (ap not c.if-not-is_due.false) (omega (arith, c.loop-turn-test.true)) c.fold_once-p.ensures ∙ c.loop-turn.invariant.0),
       omega (arith, c.loop-turn-test.true),
       ap (λ (p : Folding). p.folds) c.fold_once-p.ensures ∙ fold-counts _ _ _ ∙ ap (λ n. n + 1) c.loop-turn.invariant.2,
