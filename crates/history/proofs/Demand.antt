@@ -23,7 +23,6 @@ use Rattle.history.proofs.Folding.{Below, Reached}
 use Rattle.history.proofs.Standing.{At, Standing, Stays, pause-keeps, resume-keeps, reset-begins}
 use Rattle.history.proofs.Keeping.{Came, left_over, update-keeps}
 use Rattle.refusal.specs.declared.rejected.Rejected.{Rejected}
-use Rattle.refusal.specs.Refusing.{rejected}
 
 -- F folds against the limit, where A / D is q
 below-cut : (m : Option ℕ) (F : ℕ) → Below m F → (F ≡ cut_at m F) × (false ≡ reaches m F)

@@ -30,7 +30,6 @@ use Rattle.history.specs.History.{counts}
 use Rattle.history.proofs.Folding.{Below, Counted, FoldedTo, all_keep}
 use Rattle.history.proofs.Standing.{Under, At, Standing, moves-to, duration-value, scale-value, delay-value, product_small}
 use Rattle.refusal.specs.declared.rejected.Rejected.{Rejected}
-use Rattle.refusal.specs.Refusing.{rejected}
 
 -- an answer to an update by n: from H, A and F it came to K, B and F with the folds reported, or, refused, nowhere
 abbrev pub Came : Loop → ℕ → ℕ → ℕ → ℕ → ℕ → ℕ → ℕ → ℕ → ℕ → Result Updated (Rejected Tween) → Type 0

@@ -27,7 +27,6 @@ use Rattle.tween.specs.Calls.{at_start, paused, resumed, reset_of, pause_of, res
 use Rattle.history.specs.History.{Settings}
 use Rattle.history.proofs.Folding.{Below, Reached, Counted}
 use Rattle.refusal.specs.declared.rejected.Rejected.{Rejected}
-use Rattle.refusal.specs.Refusing.{rejected}
 
 -- H is the sum of the steps that counted, A the sum of what each left over after the delay, scaled, and F the sum of the folds. e of the pass under way has elapsed
 abbrev pub Under : Loop → ℕ → ℕ → ℕ → ℕ → ℕ → Tween → Type 0

@@ -13,7 +13,6 @@ use Rattle.tween.specs.Calls.{reset_of, pause_of, resume_of}
 use Rattle.tween.specs.Update.{update_of}
 use Rattle.tween.specs.Promises.{is_completed}
 use Rattle.refusal.specs.declared.rejected.Rejected.{Rejected}
-use Rattle.refusal.specs.Refusing.{rejected}
 
 -- x is the number n; a zero of either sign is 0
 abbrev pub equals : Float → ℕ → Bool

@@ -1,11 +1,9 @@
 -- `fold_all` meets its contract: from each turn on, the folds that are left come to those of the start. Assumes nothing.
-use Prim.Native.Nat.{◌+◌, ◌≤◌, ◌-◌}
+use Prim.Native.Nat.{◌+◌, ◌-◌}
 use native.Mathlib.Omega.{arith}
 use mathlib.Core.Path.{◌≡◌, refl, ap, ◌∙◌}
-use borrow.Author.Rules.{rules}
 use mathlib.Core.Bool.{not}
 use Rattle.folds.specs.declared.Folding.{Folding}
-use Rattle.folds.specs.Folds.{due, folds_of}
 use Rattle.folds.proofs.Folds.{folds-none, folds-done, folds-next, count-grows}
 use Rattle.folds.proofs.Ways.{fold-counts}
 use Rattle.folds.proofs.fold_all.Goals as goal

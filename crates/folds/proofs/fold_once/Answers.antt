@@ -1,5 +1,4 @@
 -- `fold_once` meets its contract: each arm is told its mode. Assumes nothing.
-use borrow.Author.Rules.{rules}
 use borrow.Author.Tests.{le-leb, lt-leb}
 use Rattle.folds.specs.Folds.{fold_once}
 use Rattle.folds.proofs.fold_once.Goals as goal

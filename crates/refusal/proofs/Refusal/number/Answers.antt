@@ -1,5 +1,4 @@
 -- `number` meets its contract: each arm is told its refusal, at which the definition computes. Assumes nothing.
-use borrow.Author.Rules.{rules}
 use Rattle.refusal.proofs.Refusal.number.Goals as goal
 
 pub returns-in-ProgressIsNan : goal.returns-in-ProgressIsNan
