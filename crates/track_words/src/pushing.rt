@@ -78,7 +78,8 @@ fn put_row(w: &mut [u32; 518], p: usize, row: &[u32; 8])
     }
 }
 
-// false where the track is full and no frame has the row's time: then nothing is written.
+// false where the track is full and no frame has the row's time: then nothing is written. No method of
+// `Checked`, which lends words to be read: this writes them.
 pub fn put(w: &mut [u32; 518], row: &[u32; 8]) -> bool
     requires { check_of w.old ≡ 0 }
     ensures room { result ≡ has_room w.old row.now }

@@ -20,6 +20,7 @@ pub struct Turn {
     pub done: bool,
 }
 
+// For the six of `turned`, which as literals would take some 30 lines.
 impl Turn {
     fn new(count: u32, flag: u32, done: bool) -> Turn
         ensures { result ≡ record { count = count; flag = flag; done = done } }

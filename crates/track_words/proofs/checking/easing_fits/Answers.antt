@@ -21,6 +21,3 @@ returns-then-kind-lt13 c = sym (plain_fits _ (rw (← c.word_at-kind.ensures, lt
 pub returns-then-holds : goal.returns-then-holds
 returns-then-holds c = held (easing_at c.args.w.now c.args.at)
     (rw (c.word_at-kind.ensures, c.word_at-a.ensures, c.word_at-b.ensures, c.word_at-c.ensures, c.word_at-d.ensures) at (sym c.holds.ensures ∙ c.if-holds.true))
-
-pub returns : goal.returns
-returns c = rw (c.easing_fits.ensures, c.easing_at.ensures)

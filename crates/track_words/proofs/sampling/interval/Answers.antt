@@ -2,14 +2,12 @@
 use Prim.Native.Nat.{◌-◌}
 use native.Mathlib.Omega.{arith}
 use borrow.Author.Rules.{rules}
-use mir.Syntax.{w32}
-use mir.Val.{Fits}
 use denote.Floats.{passes}
 use lib.Ieee.{Float, le}
 use Rattle.math.proofs.Patterns.{number}
 use Rattle.math.proofs.Tallies.{byte-below}
 use Rattle.frames.specs.Inner.{times_of}
-use Rattle.frames.proofs.Counts.{byte_fits, count_next, count_past, not-nan}
+use Rattle.frames.proofs.Counts.{count_next, count_past, not-nan}
 use Rattle.frames.proofs.Rising.{time-number}
 use Rattle.track_words.specs.Reading.{frames_of}
 use Rattle.track_words.proofs.Placed.{time-at}
@@ -18,12 +16,6 @@ use Rattle.track_words.proofs.sampling.interval.Goals as goal
 
 pub float_to_bits-top : goal.float_to_bits-top
 float_to_bits-top c = number c.args.t (time-number c.args.t c.requires.3)
-
-pub loop-i-init : goal.loop-i-init
-loop-i-init c = (omega arith, omega arith, omega arith)
-
-pub overflow_add-count : goal.overflow_add-count
-overflow_add-count c = let h : Fits w32 c.loop-i.i = omega arith in search (rules, byte_fits)
 
 pub loop-i-preserved : goal.loop-i-preserved
 loop-i-preserved c = let ws = c.args.w.now in let test = before-test ws c.args.n c.requires.2 c.requires.0 c.loop-i.i (omega arith) (omega arith) c.args.t (passes _ c.well_formed.1.1.0.1) c.requires.3 in

@@ -4,6 +4,3 @@ use Rattle.track_words.proofs.sampling.number_at.Goals as goal
 
 pub float_from_bits-result : goal.float_from_bits-result
 float_from_bits-result c = rw (c.word_at.ensures, nan_bits_is, c.requires.1) tt
-
-pub returns : goal.returns
-returns c = rw c.word_at.ensures
