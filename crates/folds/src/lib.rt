@@ -16,6 +16,8 @@ pub struct Folding {
     pub folds: u32,
 }
 
+// That a count is below 2^32 is asked where it goes up. As an invariant of Folding it would have to hold behind
+// the last fold too.
 fn complete(p: Folding, duration: f32, count: u32, reverse: bool) -> Folding
     requires { p.folds < 4294967295 }
     ensures { result ≡ completes duration count reverse p }

@@ -40,7 +40,8 @@ pub fn clock_fits(elapsed: f32, looping: Loop, base: f32) -> bool
     math::is_between(elapsed, 0.0, 16777216.0) & mode_fits(looping, base)
 }
 
-// The last time, and 0 where there is no frame.
+// The last time, and 0 where there is no frame. No type holds that there are at most 64: a track's fields are public,
+// and one with more is taken, to be refused with 4.
 pub fn last_time(track: Track) -> f32
     requires { track.count ≤ 64 }
     ensures { result ≡ base_of track }

@@ -3,7 +3,8 @@ ghost use Rattle.std.specs.Prelude.{◌≡◌, ◌==◌, ◌≤◌, ◌<◌, len
 ghost use Rattle.std.specs.List.{slice_range};
 ghost use Rattle.lines.specs.Places.{Within, Onward};
 
-// The bytes of a text from `from` on, before `to`. Where both are equal there is no word.
+// The bytes of a text from `from` on, before `to`. Where both are equal there is no word. Places, since Within and
+// Onward speak of them; `bytes` has the slice.
 #[derive(Clone, Copy)]
 pub struct Word {
     pub from: usize,

@@ -42,7 +42,8 @@ impl Checked<'_> {
     }
 }
 
-// How many of the first n frames, from the front, are before the time.
+// How many of the first n frames, from the front, are before the time: what frames has of this name, over words.
+// Here and in sampling.rt C's words are walked where they stand; to build the frames costs more than the walk.
 fn earlier(w: &[u32; 518], n: usize, time: f32) -> usize
     requires { n ≤ 64 }
     ensures { (result ≤ n) × (result ≡ earlier_of time (take n (frames_of w.now))) }

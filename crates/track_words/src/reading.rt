@@ -16,6 +16,8 @@ pub fn wide(x: u32) -> usize
     x as usize
 }
 
+// A place is a number: callers show by arithmetic that it is one of the 518, and a type for places would ask for the
+// same.
 pub fn word_at(w: &[u32; 518], at: usize) -> u32
     requires { at < 518 }
     ensures { result ≡ word_at w.now at }

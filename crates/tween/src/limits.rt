@@ -38,6 +38,8 @@ fn clock_within(t: Tween) -> bool
         & idle_below(state, t.delay_elapsed, t.delay)
 }
 
+// No type holds what this says: a tween's fields are public, a step sets four of them one by one, and every tween
+// is taken, to be refused with 4 where it breaks a limit. So inner steps ask for it, or for the part they need.
 #[tactic(auto, unfolding(crate::specs::Limits::within_of))]
 pub fn within(t: Tween) -> bool
     ensures { result ≡ within_of t }

@@ -75,7 +75,8 @@ fn turned(mode: u32, limit: u32, count: u32, flag: u32) -> Turn
     Turn::new(next, flag_word(flag == 0), false)
 }
 
-// The patterns of a tween that fits are no NaN's.
+// The patterns of a tween that fits are no NaN's. Three functions ask that it fits; a type for it would be built in
+// two places, and taken apart in each.
 fn run(w: &[u32; 18], secs: f32) -> Option<Slid>
     requires { (fits_of w.now ≡ true) × (word_at w.now 15 ≡ 1) × (lt top_f secs ≡ false) }
     ensures { SlidesTo w.now secs result }
