@@ -11,10 +11,16 @@ pub fn has_argument(rt: &HostRuntime, i: usize) -> bool {
     !matches!(rt.arg(i, &mut []), Err(FillError::NotPresent))
 }
 
-// Whether the program is called with one word, and which. A file of that name is found behind `./`.
+// Whether the program is called with one word, and which; with blanks behind it up to 20 bytes. A file of that name
+// is found behind `./`.
 fn is_asked(rt: &HostRuntime, word: &[u8]) -> bool {
     let mut buffer = io::buffer();
-    has_argument(rt, 1) & !has_argument(rt, 2) & (argument(rt, 1, &mut buffer) == word)
+    let given = argument(rt, 1, &mut buffer);
+    let is_word = match given.strip_prefix(word) {
+        Some(rest) => (given.len() <= 20) & rest.iter().all(|b| *b == b' '),
+        None => false,
+    };
+    is_word & has_argument(rt, 1) & !has_argument(rt, 2)
 }
 
 // Whether there are fewer words than that.
