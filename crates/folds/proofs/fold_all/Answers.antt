@@ -8,9 +8,6 @@ use Rattle.folds.proofs.Folds.{folds-none, folds-done, folds-next, count-grows}
 use Rattle.folds.proofs.Ways.{fold-counts}
 use Rattle.folds.proofs.fold_all.Goals as goal
 
-pub loop-turn-init : goal.loop-turn-init
-loop-turn-init c = (refl, omega arith, omega arith, omega arith)
-
 pub returns-then-not-is_due : goal.returns-then-not-is_due
 returns-then-not-is_due c = folds-done _ _ _ _ _ c.is_due.ensures (ap not c.if-not-is_due.true) ∙ c.loop-turn.invariant.0
 

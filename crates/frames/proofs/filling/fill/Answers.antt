@@ -19,20 +19,12 @@ pub loop-i-init : goal.loop-i-init
 unfolding filled_of unsettled_of
 loop-i-init c = (search rules, refl, fill_none (at c.args.frames c.args.n) nan c.args.times.now c.args.out.now c.requires.3, search rules, rw take-length (omega arith))
 
-pub overflow_add-unsettled : goal.overflow_add-unsettled
-unfolding filled_of unsettled_of
-overflow_add-unsettled c = let h : Fits w64 (c.loop-i.i + 1) = omega arith in search (rules, byte_fits)
-
 pub loop-i-preserved : goal.loop-i-preserved
 unfolding filled_of unsettled_of
 loop-i-preserved c = let h : c.loop-i.i < length c.args.times.now = omega arith in
     let e = c.at-found.ensures in
     let q = count_next (off c.args.frames c.args.n) c.args.times.now (length c.args.times.now) c.loop-i.i h (λ k. absurd (omega (arith, k))) in
     (omega arith, simp length-set c.loop-i.invariant.1, rw (e, c.loop-i.invariant.2) (fill_more (at c.args.frames c.args.n) nan c.args.times.now c.args.out.now c.requires.3 c.loop-i.i h), search (rules, byte-below), rw e (omega (arith, q)))
-
-pub shape_of-out : goal.shape_of-out
-unfolding filled_of unsettled_of
-shape_of-out c = c.loop-i.invariant.1
 
 pub returns : goal.returns
 unfolding filled_of unsettled_of

@@ -3,9 +3,6 @@ use denote.Floats.{passes}
 use Rattle.frames.proofs.Times.{number, at_zero, off_zero}
 use Rattle.frames.proofs.limits.is_time.Goals as goal
 
-pub float_to_bits-result : goal.float_to_bits-result
-float_to_bits-result c = number c.args.t c.if-t.true
-
 pub returns-then-t : goal.returns-then-t
 returns-then-t c = at_zero c.args.t (passes _ c.well_formed.0.1) c.if-t.true
 

@@ -9,12 +9,6 @@ use Rattle.math.proofs.Tallies.{byte-below}
 use Rattle.frames.proofs.Counts.{byte_fits, count_next, count_past, not-nan}
 use Rattle.frames.proofs.search.interval.Goals as goal
 
-pub loop-i-init : goal.loop-i-init
-loop-i-init c = (omega arith, omega arith, omega arith)
-
-pub overflow_add-count : goal.overflow_add-count
-overflow_add-count c = let h : Fits w32 c.loop-i.i = omega arith in search (rules, byte_fits)
-
 pub loop-i-preserved : goal.loop-i-preserved
 loop-i-preserved c = (search (rules, byte-below), omega arith, omega (arith, c.loop-i.invariant.2, count_next (λ (x : Float). le x c.args.t) c.args.times.now (c.args.n - 1) c.loop-i.i c.loop-i-test.true (λ _. not-nan c.args.t)))
 
