@@ -1,4 +1,5 @@
-// The calls of an easing, lent as six words.
+// The calls of an easing, lent as six words. Each matches on `easing_of` for itself: a closure would have
+// to capture what the call writes.
 ghost use Rattle.std.specs.Prelude.{◌≡◌};
 ghost use Rattle.capi.specs.Answers.{answering};
 ghost use Rattle.capi.specs.Easings.{lax_easing_apply, lax_easing_eq, lax_easing_is_supplied, lax_easing_named};

@@ -13,7 +13,7 @@ struct Scaled {
 }
 
 impl Scaled {
-    // Without zeros at the end.
+    // Without zeros at the end. It goes down two numbers while both allow, and counts no index.
     fn trimmed(self) -> Scaled {
         let mut it = self;
         while (it.places > 0) && (it.n % 10 == 0) {

@@ -58,7 +58,7 @@ pub fn height_at(frame: &Frame, value: f32) -> u64 {
 }
 
 // About how wide a label is, in tenths of a pixel.
-pub fn width(n: u64) -> u64
+pub(crate) fn width(n: u64) -> u64
     ensures { result ≤ 2000 }
 {
     let mut text = [0u8; 20];

@@ -9,7 +9,8 @@ use bezier::Found;
 use math::of_bits;
 use words::is_plain;
 
-// The curve of a plain kind; None of every other.
+// The curve of a plain kind; None of every other. Beside `Easing::apply`, since the C interface lends words
+// and a kind is a number there.
 pub fn draw(kind: u32, u: f32) -> Option<f32>
     requires { Within u }
     ensures { result ≡ draw_of kind u }

@@ -16,7 +16,8 @@ pub fn whole_part(x: f32) -> u32
     0
 }
 
-// Rust's f32::ceil. From 2^24 on, on either side of 0, every float is whole.
+// Rust's f32::ceil. From 2^24 on, on either side of 0, every float is whole. Std's `ceil` works out the
+// floor too.
 pub fn ceil(x: f32) -> f32
     ensures { result ≡ ceil_of x }
 {

@@ -49,7 +49,7 @@ fn push(list: &mut [Option<Seen>; 20], one: Seen) {
 }
 
 impl Lists {
-    pub fn empty() -> Lists {
+    pub(crate) fn empty() -> Lists {
         Lists {
             gaps: [None; 20],
             repeats: [None; 20],
@@ -69,7 +69,7 @@ impl Lists {
         self.least = folds_in(self.most[4]);
     }
 
-    pub fn note(&mut self, one: Seen) {
+    pub(crate) fn note(&mut self, one: Seen) {
         self.note_most(one);
         if one.folds > 1 {
             push(&mut self.many, one);

@@ -15,9 +15,7 @@ impl fmt::Display for InRamp<f32> {
 
     fn fmt<W: fmt::Write>(&self, f: &mut fmt::Formatter<W>) -> fmt::Result {
         let text = decimal::text_of(self.0);
-        let bytes = text.bytes;
-        let length = text.length;
-        f.write_str(std::str::from_utf8(&bytes[..length]).map_err(|_| fmt::Error)?)
+        f.write_str(std::str::from_utf8(text.as_bytes()).map_err(|_| fmt::Error)?)
     }
 }
 
