@@ -21,7 +21,6 @@ mod walk;
 
 use refusal::Refusal;
 use std::fs::File;
-use std::io;
 use std::rt::HostRuntime;
 use tools::{HeadError, STDERR_FILENO, STDOUT_FILENO, end_refused, end_unreadable};
 use tween::Tween;
@@ -51,16 +50,15 @@ fn is_called(rt: &HostRuntime) -> bool {
 }
 
 // A refusal before any record is replayed.
-fn refused(rt: &HostRuntime, refusal: Refusal) -> io::Result<()> {
-    print!(rt; "refused ")?;
+fn refused(rt: &HostRuntime, refusal: Refusal) {
+    let _ = print!(rt; "refused ");
     tools::say_refusal(STDOUT_FILENO, refusal);
-    println!(rt)?;
+    let _ = println!(rt);
     end_refused(refusal);
-    Ok(())
 }
 
 // The log on an open file.
-fn audit(rt: &HostRuntime, file: &mut File, t: Tween) -> io::Result<()> {
+fn audit(rt: &HostRuntime, file: &mut File, t: Tween) {
     let length = tools::length_of(file);
     match tools::read_head(rt, file, 2, length) {
         Ok(()) => report::all(rt, &walk::all(rt, file, t, length)),
@@ -68,16 +66,13 @@ fn audit(rt: &HostRuntime, file: &mut File, t: Tween) -> io::Result<()> {
         Err(HeadError::Empty) => {
             tools::say_argument(rt, STDERR_FILENO, 2);
             tools::say(STDERR_FILENO, b": the log is empty\n");
-            refused(rt, Refusal::WrongMark)
+            refused(rt, Refusal::WrongMark);
         }
-        Err(HeadError::Unreadable) => {
-            end_unreadable();
-            Ok(())
-        }
+        Err(HeadError::Unreadable) => end_unreadable(),
     }
 }
 
-// What can't be written of the report is missing at its end, which the script bin/audit tells.
+// What can't be written is left out; the last line tells how it ended.
 fn main(rt: HostRuntime) {
     if !is_called(&rt) {
         return;
@@ -91,9 +86,9 @@ fn main(rt: HostRuntime) {
         return;
     };
     tools::say_ramp(STDOUT_FILENO, t);
-    let _written = if tween::within(t) {
-        audit(&rt, &mut file, t)
+    if tween::within(t) {
+        audit(&rt, &mut file, t);
     } else {
-        refused(&rt, Refusal::RecordBreaksLimit)
-    };
+        refused(&rt, Refusal::RecordBreaksLimit);
+    }
 }

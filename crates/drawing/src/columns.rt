@@ -28,15 +28,16 @@ pub struct Column {
     pub repeats: u64,
 }
 
-// All columns, and where in the picture a time and a value stand.
+// All columns, and where in the picture a time and a value stand. They are lent: the columns are some 90 KB, which
+// to build a struct of them would put on the stack three times.
 #[derive(Clone, Copy)]
-pub struct Table {
-    pub frame: Frame,
-    pub columns: [Column; COLUMNS],
+pub struct Table<'a> {
+    pub frame: &'a Frame,
+    pub columns: &'a [Column; COLUMNS],
 }
 
 impl Column {
-    fn empty() -> Column {
+    pub fn empty() -> Column {
         Column {
             trace: None,
             passes: 0,
@@ -86,32 +87,22 @@ impl Column {
     }
 }
 
-impl Table {
-    pub fn empty(frame: Frame) -> Table {
-        Table {
-            frame,
-            columns: [Column::empty(); COLUMNS],
+// What the last record of a course adds.
+pub fn note(columns: &mut [Column; COLUMNS], frame: &Frame, c: &Course) {
+    let (x, height) = (across(&frame.time, c.time), height_at(frame, c.value));
+    let (from, to) = (column_at(frame, c.before), column_at(frame, c.time));
+    match c.came {
+        Came::Repeat => {
+            let column = &mut columns[to];
+            column.repeats = column.repeats.wrapping_add(1);
         }
-    }
-
-    // What the last record of a course adds.
-    pub fn note(&mut self, c: &Course) {
-        let frame = &self.frame;
-        let (x, height) = (across(&frame.time, c.time), height_at(frame, c.value));
-        let (from, to) = (column_at(frame, c.before), column_at(frame, c.time));
-        match c.came {
-            Came::Repeat => {
-                let column = &mut self.columns[to];
-                column.repeats = column.repeats.wrapping_add(1);
+        Came::Record { gap, folds } => {
+            if gap > 0 {
+                columns[from].note_missing(gap);
             }
-            Came::Record { gap, folds } => {
-                if gap > 0 {
-                    self.columns[from].note_missing(gap);
-                }
-                let column = &mut self.columns[to];
-                column.note_passes(folds);
-                column.trace_to(x, height);
-            }
+            let column = &mut columns[to];
+            column.note_passes(folds);
+            column.trace_to(x, height);
         }
     }
 }

@@ -5,7 +5,6 @@ use crate::columns::{Column, Table};
 use crate::frame::{HIGH, LEFT, width};
 use crate::marks::middle;
 use chart::svg::{Point, Tenths};
-use std::io;
 use std::rt::HostRuntime;
 
 // What a row has labels of: updates with more than one pass, or gaps.
@@ -57,18 +56,22 @@ impl Kind {
     }
 
     // The passes of an update have a line over the whole height.
-    fn draw(self, rt: &HostRuntime, label: Label) -> io::Result<()> {
+    fn draw(self, rt: &HostRuntime, label: Label) {
         let (x, y, n) = (Tenths(label.from), Tenths(self.height()), label.n);
         match self {
             Kind::Passes => {
-                println!(rt;
+                let _ = println!(rt;
                     "<path class=\"burst\" d=\"M{}v282\"/>",
                     Point(label.over, HIGH)
-                )?;
-                println!(rt; "<text class=\"passes\" x=\"{x}\" y=\"{y}\">{n} passes</text>")
+                );
+                let _ = println!(rt;
+                    "<text class=\"passes\" x=\"{x}\" y=\"{y}\">{n} passes</text>"
+                );
             }
             Kind::Missing => {
-                println!(rt; "<text class=\"missing\" x=\"{x}\" y=\"{y}\">{n} missing</text>")
+                let _ = println!(rt;
+                    "<text class=\"missing\" x=\"{x}\" y=\"{y}\">{n} missing</text>"
+                );
             }
         }
     }
@@ -87,12 +90,7 @@ fn place(over: u64, wide: u64, busy: u64, limit: u64) -> Option<u64>
 }
 
 // Lays the labels of a row from left to right, before a limit, and answers how many are left out.
-fn lay<F: Fn(Label) -> io::Result<()>>(
-    table: &Table,
-    kind: Kind,
-    limit: u64,
-    draw: F,
-) -> io::Result<u64>
+fn lay<F: Fn(Label)>(table: &Table<'_>, kind: Kind, limit: u64, draw: F) -> u64
     requires { F.IsAlwaysCallable draw }
 {
     let mut busy: u64 = 0;
@@ -104,7 +102,7 @@ fn lay<F: Fn(Label) -> io::Result<()>>(
             let (over, wide) = (middle(x), width(n));
             match place(over, wide, busy, limit) {
                 Some(from) => {
-                    draw(Label { from, over, n })?;
+                    draw(Label { from, over, n });
                     busy = from.wrapping_add(wide + 60);
                     left = left.wrapping_add(kind.left_of(count));
                 }
@@ -112,28 +110,27 @@ fn lay<F: Fn(Label) -> io::Result<()>>(
             }
         }
     }
-    Ok(left)
+    left
 }
 
 // One row, with room at its end for what is left out.
-fn row(rt: &HostRuntime, table: &Table, kind: Kind, limit: u64) -> io::Result<()> {
-    let left = lay(table, kind, limit, |_| Ok(()))?;
+fn row(rt: &HostRuntime, table: &Table<'_>, kind: Kind, limit: u64) {
+    let left = lay(table, kind, limit, |_| {});
     let cut = if left > 0 { width(left) + 260 } else { 0 };
     let more = lay(
         table,
         kind,
         limit.saturating_sub(cut),
         |label| kind.draw(rt, label),
-    )?;
+    );
     if more > 0 {
         let (x, y) = (Tenths(limit), Tenths(kind.height()));
-        println!(rt; "<text class=\"more\" x=\"{x}\" y=\"{y}\">and {more} more</text>")?;
+        let _ = println!(rt; "<text class=\"more\" x=\"{x}\" y=\"{y}\">and {more} more</text>");
     }
-    Ok(())
 }
 
 // The passes above, what is missing below them.
-pub fn labels(rt: &HostRuntime, table: &Table, stops: bool) -> io::Result<()> {
-    row(rt, table, Kind::Passes, 9500)?;
-    row(rt, table, Kind::Missing, if stops { 8700 } else { 9500 })
+pub fn labels(rt: &HostRuntime, table: &Table<'_>, stops: bool) {
+    row(rt, table, Kind::Passes, 9500);
+    row(rt, table, Kind::Missing, if stops { 8700 } else { 9500 });
 }

@@ -3,7 +3,6 @@ use crate::columns::{Column, Table};
 use crate::course::Course;
 use crate::frame::{HIGH, LOW, across};
 use chart::svg::Point;
-use std::io;
 use std::rt::HostRuntime;
 
 // The middle of a column.
@@ -14,31 +13,31 @@ pub fn middle(column: usize) -> u64 {
 // The same shape in each column that has something of a kind, as a path in its class.
 fn shapes<F: Fn(&Column) -> u64>(
     rt: &HostRuntime,
-    table: &Table,
+    table: &Table<'_>,
     class: &str,
     count: F,
     y: u64,
     shape: &str,
-) -> io::Result<()>
+)
     requires { F.IsAlwaysCallable count }
 {
-    print!(rt; "<path class=\"{class}\" d=\"")?;
+    let _ = print!(rt; "<path class=\"{class}\" d=\"");
     for (x, column) in table.columns.iter().enumerate() {
         if count(column) > 0 {
-            print!(rt; "M{}{shape}", Point(middle(x), y))?;
+            let _ = print!(rt; "M{}{shape}", Point(middle(x), y));
         }
     }
-    println!(rt; "\"/>")
+    let _ = println!(rt; "\"/>");
 }
 
 // A band over the whole height for what is missing, ticks below the axis for passes, and triangles above
 // the field for repeats.
-pub fn marks(rt: &HostRuntime, table: &Table, c: &Course) -> io::Result<()> {
+pub fn marks(rt: &HostRuntime, table: &Table<'_>, c: &Course) {
     if c.replay.missing > 0 {
-        shapes(rt, table, "gap", |column| column.gaps, HIGH, "v282")?;
+        shapes(rt, table, "gap", |column| column.gaps, HIGH, "v282");
     }
     if c.replay.folds > 0 {
-        shapes(rt, table, "pass", |column| column.passes, LOW, "v6")?;
+        shapes(rt, table, "pass", |column| column.passes, LOW, "v6");
     }
     if c.repeats > 0 {
         shapes(
@@ -48,22 +47,18 @@ pub fn marks(rt: &HostRuntime, table: &Table, c: &Course) -> io::Result<()> {
             |column| column.repeats,
             HIGH,
             "l-3,-6h6z",
-        )?;
+        );
     }
-    Ok(())
 }
 
 // A red line where a record is refused.
-pub fn stop(rt: &HostRuntime, table: &Table, c: &Course) -> io::Result<()> {
-    match c.refused {
-        Some(refusal) => {
-            let top = Point(across(&table.frame.time, c.time), HIGH);
-            println!(rt; "<path class=\"stop\" d=\"M{top}v282\"/>")?;
-            println!(rt;
-                "<text class=\"stopped\" x=\"950\" y=\"76\">refused {}</text>",
-                refusal.number()
-            )
-        }
-        None => Ok(()),
+pub fn stop(rt: &HostRuntime, table: &Table<'_>, c: &Course) {
+    if let Some(refusal) = c.refused {
+        let top = Point(across(&table.frame.time, c.time), HIGH);
+        let _ = println!(rt; "<path class=\"stop\" d=\"M{top}v282\"/>");
+        let _ = println!(rt;
+            "<text class=\"stopped\" x=\"950\" y=\"76\">refused {}</text>",
+            refusal.number()
+        );
     }
 }

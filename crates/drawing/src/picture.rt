@@ -6,22 +6,23 @@ use crate::field::{axes, grid};
 use crate::labels::labels;
 use crate::marks::{marks, stop};
 use crate::title::title;
+use std::fmt;
 use std::rt::HostRuntime;
-use std::{fmt, io};
 use tween::Tween;
 
-// The start of the file, with the look of each class.
-const HEAD: &str =
-    "<svg xmlns=\"http://www.w3.org/2000/svg\" viewBox=\"0 0 960 420\" width=\"960\" height=\"420\">
-<style>text{font-family:sans-serif;font-size:11px;fill:#222}
-.title{font-size:13px;font-weight:bold}.sum{font-size:12px}
-.t{text-anchor:middle}.v,.more,.stopped{text-anchor:end}.more{fill:#666}
-path{fill:none}.grid{stroke:#ddd}.axis{stroke:#222}
-.curve{stroke:#0b5394;stroke-width:1.6;stroke-linejoin:round;stroke-linecap:round}.point{fill:#0b5394}
-.gap{stroke:#f2b632;stroke-opacity:.6;stroke-width:6}.missing{fill:#8a5a00}.gaps{fill:#f2b632}
-.pass{stroke:#444}.burst{stroke:#222;stroke-dasharray:3 3}
-.repeat,.repeats{fill:#7b3294}.stop{stroke:#c00;stroke-width:2}.stopped{fill:#c00}</style>
-<rect width=\"960\" height=\"420\" fill=\"#fff\"/>";
+// The start of the file with the look of each class, by lines.
+const HEAD: [&str; 10] = [
+    "<svg xmlns=\"http://www.w3.org/2000/svg\" viewBox=\"0 0 960 420\" width=\"960\" height=\"420\">",
+    "<style>text{font-family:sans-serif;font-size:11px;fill:#222}",
+    ".title{font-size:13px;font-weight:bold}.sum{font-size:12px}",
+    ".t{text-anchor:middle}.v,.more,.stopped{text-anchor:end}.more{fill:#666}",
+    "path{fill:none}.grid{stroke:#ddd}.axis{stroke:#222}",
+    ".curve{stroke:#0b5394;stroke-width:1.6;stroke-linejoin:round;stroke-linecap:round}.point{fill:#0b5394}",
+    ".gap{stroke:#f2b632;stroke-opacity:.6;stroke-width:6}.missing{fill:#8a5a00}.gaps{fill:#f2b632}",
+    ".pass{stroke:#444}.burst{stroke:#222;stroke-dasharray:3 3}",
+    ".repeat,.repeats{fill:#7b3294}.stop{stroke:#c00;stroke-width:2}.stopped{fill:#c00}</style>",
+    "<rect width=\"960\" height=\"420\" fill=\"#fff\"/>",
+];
 
 // A count with its noun, behind a sign in the colour of its marks; nothing for 0.
 #[derive(Clone, Copy)]
@@ -43,7 +44,7 @@ impl<'a> fmt::Display for Count<'a> {
 }
 
 // The counts of what is marked, and the end of their line.
-fn print_marks(rt: &HostRuntime, c: &Course) -> io::Result<()> {
+fn print_marks(rt: &HostRuntime, c: &Course) {
     let passes = Count {
         n: c.replay.folds,
         sign: "|",
@@ -62,7 +63,7 @@ fn print_marks(rt: &HostRuntime, c: &Course) -> io::Result<()> {
         one: "repeat",
         many: "repeats",
     };
-    println!(rt; "{passes}{missing}{repeats}</text>")
+    let _ = println!(rt; "{passes}{missing}{repeats}</text>");
 }
 
 // How many passes of a ramp are drawn, and of how many; None where they have no end.
@@ -73,56 +74,56 @@ pub struct Shown {
 }
 
 // Which passes they are, where they are not all.
-fn print_shown(rt: &HostRuntime, shown: Shown) -> io::Result<()> {
+fn print_shown(rt: &HostRuntime, shown: Shown) {
     match shown.of {
-        Some(all) if all == shown.passes => Ok(()),
-        Some(all) => print!(rt; ", first {} of {all} passes", shown.passes),
-        None => print!(rt; ", first {} passes", shown.passes),
+        Some(all) if all == shown.passes => {}
+        Some(all) => {
+            let _ = print!(rt; ", first {} of {all} passes", shown.passes);
+        }
+        None => {
+            let _ = print!(rt; ", first {} passes", shown.passes);
+        }
     }
 }
 
 // All below the two lines of text.
-fn body(rt: &HostRuntime, table: &Table, c: &Course) -> io::Result<()> {
-    let frame = &table.frame;
-    grid(rt, frame)?;
-    axes(rt, frame)?;
-    curve(rt, table)?;
+fn body(rt: &HostRuntime, table: &Table<'_>, c: &Course) {
+    let frame = table.frame;
+    grid(rt, frame);
+    axes(rt, frame);
+    curve(rt, table);
     if c.time <= 0.0 {
-        point(rt, table)?;
+        point(rt, table);
     }
-    marks(rt, table, c)?;
-    labels(rt, table, c.refused.is_some())?;
-    stop(rt, table, c)?;
-    println!(rt; "</svg>")
+    marks(rt, table, c);
+    labels(rt, table, c.refused.is_some());
+    stop(rt, table, c);
+    let _ = println!(rt; "</svg>");
 }
 
 // The start of the line below the title, behind all above it.
-fn open(rt: &HostRuntime, t: Tween) -> io::Result<()> {
-    println!(rt; "{HEAD}")?;
-    title(rt, t)?;
-    print!(rt; "<text class=\"sum\" x=\"80\" y=\"40\">")
+fn open(rt: &HostRuntime, t: Tween) {
+    for line in HEAD {
+        let _ = println!(rt; "{line}");
+    }
+    title(rt, t);
+    let _ = print!(rt; "<text class=\"sum\" x=\"80\" y=\"40\">");
 }
 
 // The picture of a log that was replayed into a ramp.
-pub fn picture_of_log(rt: &HostRuntime, t: Tween, table: &Table, c: &Course) -> io::Result<()> {
-    open(rt, t)?;
+pub fn picture_of_log(rt: &HostRuntime, t: Tween, table: &Table<'_>, c: &Course) {
+    open(rt, t);
     let noun = if c.records == 1 { "record" } else { "records" };
-    print!(rt; "{} {noun}", c.records)?;
-    print_marks(rt, c)?;
-    body(rt, table, c)
+    let _ = print!(rt; "{} {noun}", c.records);
+    print_marks(rt, c);
+    body(rt, table, c);
 }
 
 // The picture of a ramp alone.
-pub fn picture_of_ramp(
-    rt: &HostRuntime,
-    t: Tween,
-    table: &Table,
-    c: &Course,
-    shown: Shown,
-) -> io::Result<()> {
-    open(rt, t)?;
-    print!(rt; "the ramp alone")?;
-    print_shown(rt, shown)?;
-    print_marks(rt, c)?;
-    body(rt, table, c)
+pub fn picture_of_ramp(rt: &HostRuntime, t: Tween, table: &Table<'_>, c: &Course, shown: Shown) {
+    open(rt, t);
+    let _ = print!(rt; "the ramp alone");
+    print_shown(rt, shown);
+    print_marks(rt, c);
+    body(rt, table, c);
 }

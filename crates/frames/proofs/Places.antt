@@ -11,7 +11,7 @@ use borrow.Author.Tests.{le-leb, lt-leb}
 use Rattle.frames.specs.declared.frame.Keyframe.{Keyframe}
 use Rattle.frames.specs.Limits.{no_frame}
 use Rattle.frames.specs.Sampling.{leading}
-use Rattle.std.specs.Prelude.{Some, None}
+use Rattle.std.specs.Prelude.{Ok, Err}
 use Rattle.frames.specs.Pushing.{pushed_of, put_of}
 use Rattle.frames.specs.Inner.{earlier_of, insert_of}
 
@@ -47,7 +47,7 @@ module _ (fs : List Keyframe) (n : ℕ) (k : Keyframe) (fit : n ≤ length fs) (
   long : length (take n fs) ≡ n
   long = length-take-le n fs fit
 
-  pub put_same : p < n → eq (get_or fs p no_frame).time k.time ≡ true → Some (record { frames = set fs p k; count = n }) ≡ put_of fs n k
+  pub put_same : p < n → eq (get_or fs p no_frame).time k.time ≡ true → Ok (record { frames = set fs p k; count = n }) ≡ put_of fs n k
   unfolding put_of
   put_same h e =
       let s : pushed_of k (take n fs) ≡ set (take n fs) p k = rw at (pushed-same k (take n fs) (omega (arith, long, at)) (rw (← at, get_or-take n fs p no_frame h) e)) in
@@ -73,10 +73,10 @@ module _ (fs : List Keyframe) (n : ℕ) (k : Keyframe) (fit : n ≤ length fs) (
         let b : length (take (n - p) (drop p fs)) ≡ n - p = length-take-le (n - p) (drop p fs) (omega (arith, length-drop p fs)) in
         length-append (take p fs) (k ∷ take (n - p) (drop p fs)) ∙ omega arith
 
-    pub put-new : n < 64 → Some (record { frames = insert_of fs n p k; count = n + 1 }) ≡ put_of fs n k
+    pub put-new : n < 64 → Ok (record { frames = insert_of fs n p k; count = n + 1 }) ≡ put_of fs n k
     unfolding put_of insert_of
     put-new room = rw (parted, one_more, le-leb (n + 1) 64 (omega arith), append_assoc)
 
-    pub put_full : 64 ≤ n → None ≡ put_of fs n k
+    pub put_full : 64 ≤ n → Err (record { frames = fs; count = n }) ≡ put_of fs n k
     unfolding put_of
     put_full room = rw (parted, one_more, lt-leb (n + 1) 64 (omega arith))

@@ -21,7 +21,7 @@ fn times_of(frames: &[Keyframe; 64], n: usize) -> [f32; 64]
     times
 }
 
-// starts are the frames' times. Only the two frames beside a time are read whole.
+// starts are the frames' times. Only the two frames beside a time, the first and the last are read whole.
 fn at(frames: &[Keyframe; 64], n: usize, starts: &[f32; 64], secs: f32) -> Found
     requires { (frames_within (take n frames.now) ≡ true) × (0 < n) × (n ≤ 64) × (take n starts.now ≡ times_of (take n frames.now)) }
     ensures { result ≡ sample_of (take n frames.now) secs }

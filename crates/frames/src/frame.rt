@@ -9,7 +9,7 @@ pub struct Keyframe {
     pub easing: Easing,
 }
 
-// The frames with one more among them, or with one replaced.
+// The frames with one more among them, or with one replaced; or as they came, where there was no room.
 #[derive(Clone, Copy)]
 pub struct Put {
     pub frames: [Keyframe; 64],

@@ -31,9 +31,9 @@ fn insert(frames: [Keyframe; 64], n: usize, p: usize, k: Keyframe) -> [Keyframe;
     g
 }
 
-// A frame at k's time is replaced; the places behind the frames keep what they hold. None where there
-// are 64 frames, and none of them at k's time.
-pub fn put(frames: [Keyframe; 64], n: usize, k: Keyframe) -> Option<Put>
+// A frame at k's time is replaced; the places behind the frames keep what they hold. An error, of the
+// frames as they came, where there are 64, and none of them at k's time.
+pub fn put(frames: [Keyframe; 64], n: usize, k: Keyframe) -> Result<Put, Put>
     requires { n ≤ 64 }
     ensures { result ≡ put_of frames n k }
 {
@@ -42,7 +42,7 @@ pub fn put(frames: [Keyframe; 64], n: usize, k: Keyframe) -> Option<Put>
         if frames[p].time == k.time {
             let mut g = frames;
             g[p] = k;
-            return Some(Put {
+            return Ok(Put {
                 frames: g,
                 count: n,
             });
@@ -50,10 +50,10 @@ pub fn put(frames: [Keyframe; 64], n: usize, k: Keyframe) -> Option<Put>
     }
     if n < 64 {
         let g = insert(frames, n, p, k);
-        return Some(Put {
+        return Ok(Put {
             frames: g,
             count: n + 1,
         });
     }
-    None
+    Err(Put { frames, count: n })
 }

@@ -1,5 +1,5 @@
 -- Every call that is handed a track within its limits hands back one within them. Assumes nothing.
-use Rattle.std.specs.Prelude.{None, Option, Some}
+use Rattle.std.specs.Prelude.{Err, None, Ok, Option, Some}
 use Rattle.std.proofs.Common.{◌≡◌, ℕ, ◌-◌, ◌<◌, ◌≤◌, Bool, true, false, ◌&&◌, T, eqb, leb, List, ◌++◌, length, take, drop, pos, refl, le_refl, arith, lit≤, le→leb, take_at, le-leb, leb-true, Result}
 use mathlib.Core.Path.{subst⁻¹}
 use borrow.Author.Tests.{eqb-false}
@@ -161,7 +161,7 @@ module _ (t : Track) (fine : Fine t) (k : Keyframe) (good : frame_within k ≡ t
   unfolding put_of placed_of
   placed-within =
       let l = pushed_of k (frames_in t) in
-      by-test (λ (p : Option Put). Fine (left_by (placed_of t p))) (leb (length l) 64) (Some (record { frames = l ++ drop (length l) t.frames; count = length l })) None
+      by-test (λ (p : Result Put Put). Fine (left_by (placed_of t p))) (leb (length l) 64) (Ok (record { frames = l ++ drop (length l) t.frames; count = length l })) (Err (record { frames = t.frames; count = t.count }))
       (λ h.
       let e : take (length l) (l ++ drop (length l) t.frames) ≡ l = take_at l (drop (length l) t.frames) (length l) refl in
       make (with_frames t (l ++ drop (length l) t.frames) (length l)) (leb-true (length l) 64 h) (rw e grown-fine) (test-clock t.elapsed (elapsed-fine t fine)) (rw e grown-mode))

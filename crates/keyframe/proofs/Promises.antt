@@ -53,7 +53,7 @@ placed-sampled : (t : Track) (k : Keyframe) → T (fits binary32 k.value) → Sa
 unfolding put_of placed_of
 placed-sampled t k F =
     let l = pushed_of k (frames_in t) in
-    by-test (λ (p : Option Put). Sampled k.time k.value (placed_of t p)) (leb (length l) 64) (Some (record { frames = l ++ drop (length l) t.frames; count = length l })) None
+    by-test (λ (p : Result Put Put). Sampled k.time k.value (placed_of t p)) (leb (length l) 64) (Ok (record { frames = l ++ drop (length l) t.frames; count = length l })) (Err (record { frames = t.frames; count = t.count }))
     (λ _ fine. go l (pushed-in k (frames_in t)) (take (length l) (l ++ drop (length l) t.frames)) (take_at l (drop (length l) t.frames) (length l) refl) (frames-fine _ fine))
     (λ _. tt)
   where

@@ -13,15 +13,16 @@ use Rattle.easing.specs.Kinds.{supplied_of}
 use Rattle.easing.specs.Params as params
 use Rattle.loop_mode.specs.declared.Loop.{Loop}
 use Rattle.frames.specs.declared.frame.Keyframe.{Keyframe}
+use Rattle.frames.specs.declared.frame.Put.{Put}
 use Rattle.frames.specs.Pushing.{put_of}
 use Rattle.frames.specs.Sampling.{sample_of}
 use Rattle.keyframe.specs.declared.types.Track.{Track}
 use Rattle.keyframe.specs.Limits.{base_of, end_of, frames_in, mode_fits, within_of}
-use Rattle.keyframe.specs.Pushing.{stored_of, takes_of, with_mode, placed_of, push_of, looping_of}
+use Rattle.keyframe.specs.Pushing.{stored_of, takes_of, with_frames, with_mode, placed_of, push_of, looping_of}
 use Rattle.keyframe.specs.Sampling.{value_at_of}
 use Rattle.keyframe.specs.Batch.{batch_number}
 use Rattle.keyframe.specs.Stepping.{sought_of, seek_to_of}
-use Rattle.keyframe.specs.Inner.{takes_at, push_outcome, looping_outcome, sample_outcome, fill_outcome, seek_outcome}
+use Rattle.keyframe.specs.Inner.{takes_at, push_outcome, room_outcome, looping_outcome, sample_outcome, fill_outcome, seek_outcome}
 use Rattle.refusal.specs.declared.rejected.Rejected.{Rejected}
 use Rattle.refusal.specs.Refusing.{rejected, done}
 
@@ -37,6 +38,12 @@ sampled_by found (Err r) = Err r
 abbrev pub number_by : Result ⊤ Refusal → ℕ
 number_by (Ok tt) = 0
 number_by (Err r) = number_of r
+
+-- a place is found, or the frames come back as they were
+pub place-by : (t : Track) (p : Put) (full : Bool) (o : Result ⊤ Refusal) → o ≡ room_outcome full → changed_by t (Ok (with_frames t p.frames p.count)) o ≡ placed_of t (cond full (Err p) (Ok p))
+unfolding room_outcome placed_of
+place-by t p true o e = rw e
+place-by t p false o e = rw e
 
 module _ (t : Track) (within : within_of t ≡ true) where
   -- `last` and the frame as they are known

@@ -1,5 +1,5 @@
 -- Document 01, "The track" and "Refusal numbers": a frame pushed into a track, and a change of its mode.
-use Rattle.std.specs.Prelude.{ℕ, Bool, false, cond, ◌&&◌, List, replicate, Float, Err, Ok, Result, Option, Some, None}
+use Rattle.std.specs.Prelude.{ℕ, Bool, false, cond, ◌&&◌, List, replicate, Float, Err, Ok, Result}
 use Rattle.std.specs.Float.Ieee.{lt, eq}
 use Rattle.math.specs.Rounded.{zero_f}
 use Rattle.math.specs.Range.{is_value}
@@ -65,9 +65,9 @@ abbrev pub with_mode : Track → Loop → Track
 with_mode t m = remade t t.frames t.count m
 
 -- 9: "push into a full track at a time no frame has"
-unfoldable pub placed_of : Track → Option Put → Result Track (Rejected Track)
-placed_of t (Some p) = Ok (with_frames t p.frames p.count)
-placed_of t None = rejected t TrackFull
+unfoldable pub placed_of : Track → Result Put Put → Result Track (Rejected Track)
+placed_of t (Ok p) = Ok (with_frames t p.frames p.count)
+placed_of t (Err p) = rejected t TrackFull
 
 -- the order of the refusals: 4, 2, 3, 11, 9
 unfoldable pub push_of : Track → Keyframe → Result Track (Rejected Track)

@@ -27,7 +27,7 @@ fn place(track: Track, k: Keyframe) -> Result<Track, Rejected<Track>>
     ensures { result ≡ placed_of track (put_of track.frames track.count k) }
 {
     let old = track.frames;
-    let Some(put) = frames::put(old, track.count, k) else {
+    let Ok(put) = frames::put(old, track.count, k) else {
         return Err(Rejected::new(track, Refusal::TrackFull));
     };
     let frames = put.frames;

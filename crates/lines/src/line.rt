@@ -1,5 +1,5 @@
 // The words of a line, taken one after another.
-ghost use Rattle.std.specs.Prelude.{◌≡◌, ◌<◌, IfOk, IfErr};
+ghost use Rattle.std.specs.Prelude.{◌≡◌, ◌<◌, ◌≤◌, length, IfOk, IfErr};
 ghost use Rattle.std.specs.List.{slice_range};
 ghost use Rattle.decimal.specs.Reading.{read_of};
 ghost use Rattle.lines.specs.declared.word.Word.{Word};
@@ -36,6 +36,7 @@ impl<'a> Line<'a> {
     // The next word, which is missing at the line's end.
     pub fn word(&mut self) -> Word
         ensures word { Within self.old.text.now result }
+        ensures behind { self.old.place ≤ length self.old.text.now → self.old.place ≤ result.from }
         ensures place { self.new.place ≡ result.to }
         ensures text { self.new.text ≡ self.old.text }
     {
@@ -46,7 +47,7 @@ impl<'a> Line<'a> {
 
     // The next word as a decimal, to the nearest f32.
     pub fn value(&mut self) -> Result<f32, Mistake>
-        ensures value { IfOk result (λ x. (w : Word) × Within self.old.text.now w × (read_of (slice_range self.old.text.now w.from w.to) ≡ Ok x)) }
+        ensures value { IfOk result (λ x. (w : Word) × Within self.old.text.now w × (self.old.place ≤ length self.old.text.now → self.old.place ≤ w.from) × (w.to ≡ self.new.place) × (read_of (slice_range self.old.text.now w.from w.to) ≡ Ok x)) }
         ensures mistake { IfErr result (λ m. Within self.old.text.now m.found) }
         ensures text { self.new.text ≡ self.old.text }
     {

@@ -1,6 +1,7 @@
 // The lines of a text, in order.
-ghost use Rattle.std.specs.Prelude.{◌≡◌, ◌+◌, ◌-◌, ◌≤◌, length};
+ghost use Rattle.std.specs.Prelude.{◌≡◌, ◌+◌, ◌-◌, ◌≤◌, length, ◌<◌, IfSome};
 ghost use Rattle.std.specs.Iterator.{at_most};
+ghost use Rattle.lines.specs.Places.{Onward};
 
 use crate::line::Line;
 use crate::word::line_behind;
@@ -27,14 +28,14 @@ impl<'a> Lines<'a> {
             number: 1,
         }
     }
-}
 
-impl<'a> Iterator for Lines<'a> {
-    type Item = Line<'a>;
-
-    ghost remaining = { λ s. at_most (length s.text.now - s.place) };
-
-    fn next(&mut self) -> Option<Line<'a>> {
+    // The line at the place, which then is the next line's.
+    fn line(&mut self) -> Option<Line<'a>>
+        ensures line { IfSome result (λ line. (line.text.now ≡ self.old.text.now) × (line.place ≡ self.old.place) × (line.number ≡ self.old.number)) }
+        ensures number { IfSome result (λ _. self.new.number ≡ self.old.number + 1) }
+        ensures place { IfSome result (λ _. (self.old.place < length self.old.text.now) × Onward self.old.text.now self.old.place self.new.place) }
+        ensures text { self.new.text ≡ self.old.text }
+    {
         let text = self.text;
         let place = self.place;
         if place >= text.len() {
@@ -51,5 +52,15 @@ impl<'a> Iterator for Lines<'a> {
             number: self.number + 1,
         };
         Some(line)
+    }
+}
+
+impl<'a> Iterator for Lines<'a> {
+    type Item = Line<'a>;
+
+    ghost remaining = { λ s. at_most (length s.text.now - s.place) };
+
+    fn next(&mut self) -> Option<Line<'a>> {
+        self.line()
     }
 }

@@ -48,7 +48,8 @@ fn first_place<F: Fn(u8) -> bool>(text: &[u8], from: usize, is_sought: F) -> usi
 
 // The next word of a line, at or behind a place of it.
 pub fn word_behind(text: &[u8], place: usize) -> Word
-    ensures { Within text.now result }
+    ensures word { Within text.now result }
+    ensures behind { place ≤ length text.now → place ≤ result.from }
 {
     if place > text.len() {
         return Word {

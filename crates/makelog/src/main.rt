@@ -71,7 +71,8 @@ fn write(rt: &HostRuntime, text: &[u8]) {
     drop(file);
     match written {
         Ok(records) => {
-            let _ = println!(rt; "records {records}\nend ok");
+            let _ = println!(rt; "records {records}");
+            let _ = println!(rt; "end ok");
         }
         Err(WriteError::Unread) => {}
         Err(WriteError::Failed) => {
@@ -92,7 +93,7 @@ fn run(rt: &HostRuntime, text: &[u8]) {
     }
 }
 
-// What can't be printed is left out: that the last line is missing tells it.
+// What can't be written is left out; the last line tells how it ended.
 fn main(rt: HostRuntime) {
     if !is_called(&rt) {
         return;

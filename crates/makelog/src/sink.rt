@@ -109,15 +109,17 @@ impl<'a> Sink<'a> {
         Ok(())
     }
 
-    // The last record once more: it stands at 5, behind the head.
+    // The last record once more: it stands at 5, behind the head. Where the flush fails, one write is tried all
+    // the same, and the later error is the answer.
     fn repeat(&mut self, times: u32) -> Result<(), WriteError> {
-        self.flush()?;
+        let flushed = self.flush();
         for _ in 0..times {
             let buffer = &self.buffer[..];
             self.file.write_all(&buffer[5..13])?;
+            flushed?;
             self.records = self.records.wrapping_add(1);
         }
-        Ok(())
+        flushed
     }
 
     fn obey(&mut self, order: Order) -> Result<(), WriteError> {

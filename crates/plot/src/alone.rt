@@ -1,5 +1,5 @@
 // The ramp alone, by steps of a column each.
-use drawing::columns::{COLUMNS, Table};
+use drawing::columns::{COLUMNS, Column, Table, note};
 use drawing::course::Course;
 use drawing::frame::frame_of;
 use drawing::picture::{Shown, picture_of_ramp};
@@ -46,14 +46,20 @@ fn walk<F: FnMut(&Course)>(t: Tween, step: f32, mut note: F) -> Course
     c
 }
 
-// Draws a ramp with no log.
+// Draws a ramp with no log. Not inlined, as `draw_parts`: a call that draws nothing then has no room for a table.
+#[inline(never)]
 pub fn draw_alone(rt: &HostRuntime, t: Tween) {
     let shown = shown_of(t);
     let step = step_of(t, shown.passes);
     let mut seen = walk(t, step, |_| {});
     // the last step only makes the end sure
     seen.time = seen.before;
-    let mut table = Table::empty(frame_of(&seen));
-    let c = walk(t, step, |c| table.note(c));
-    let _written = picture_of_ramp(rt, t, &table, &c, shown);
+    let frame = frame_of(&seen);
+    let mut columns = [Column::empty(); COLUMNS];
+    let c = walk(t, step, |c| note(&mut columns, &frame, c));
+    let table = Table {
+        frame: &frame,
+        columns: &columns,
+    };
+    picture_of_ramp(rt, t, &table, &c, shown);
 }

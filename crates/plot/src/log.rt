@@ -1,6 +1,6 @@
 // The log, gone over twice: for what it holds, and to draw it.
 use crate::refusing::{refuse, unread};
-use drawing::columns::Table;
+use drawing::columns::{COLUMNS, Column, Table, note};
 use drawing::course::Course;
 use drawing::frame::frame_of;
 use drawing::picture::picture_of_log;
@@ -25,7 +25,8 @@ fn over_records<F: FnMut(&Course)>(c: &mut Course, part: &[u8], mut note: F)
     }
 }
 
-// Over the next part of a file; whether it could be read.
+// Over the next part of a file; whether it could be read. Not inlined, so that its buffer is on the stack once.
+#[inline(never)]
 fn over_part<F: FnMut(&Course)>(rt: &HostRuntime, file: &mut File, c: &mut Course, note: F) -> bool
     requires { (state : F) (c : _) → F.pre state c }
 {
@@ -63,6 +64,7 @@ fn over_parts<F: FnMut(&Course)>(
 }
 
 // Goes over the records, then back to the first to draw them.
+#[inline(never)]
 fn draw_parts(rt: &HostRuntime, file: &mut File, t: Tween, parts: u64) {
     let Some(seen) = over_parts(rt, file, parts, t, |_| {}) else {
         end_unreadable();
@@ -72,12 +74,17 @@ fn draw_parts(rt: &HostRuntime, file: &mut File, t: Tween, parts: u64) {
         unread(rt);
         return;
     };
-    let mut table = Table::empty(frame_of(&seen));
-    let Some(c) = over_parts(rt, file, parts, t, |c| table.note(c)) else {
+    let frame = frame_of(&seen);
+    let mut columns = [Column::empty(); COLUMNS];
+    let Some(c) = over_parts(rt, file, parts, t, |c| note(&mut columns, &frame, c)) else {
         end_unreadable();
         return;
     };
-    let _written = picture_of_log(rt, t, &table, &c);
+    let table = Table {
+        frame: &frame,
+        columns: &columns,
+    };
+    picture_of_log(rt, t, &table, &c);
 }
 
 // A file of so many bytes.

@@ -16,10 +16,8 @@ use tools::STDERR_FILENO;
 // The list that a path names.
 fn answer(rt: &HostRuntime, path: &[u8]) {
     match tools::open_read(rt, path) {
-        Ok(mut list) => {
-            // what can't be written of the report is missing at its end
-            let _written = report::all(rt, walk::all(&mut list));
-        }
+        // what can't be written of the report is left out
+        Ok(mut list) => report::all(rt, walk::all(&mut list)),
         Err(error) => {
             tools::say(STDERR_FILENO, path);
             tools::say(STDERR_FILENO, b": ");

@@ -1,33 +1,31 @@
 // What the program writes: a line for each call, and how many of the answers differ.
 use crate::call::Kind;
 use crate::walk::{Cut, Tally};
-use std::io;
 use std::rt::HostRuntime;
 
-fn calls(rt: &HostRuntime, counts: &[u64; 48]) -> io::Result<()> {
+fn calls(rt: &HostRuntime, counts: &[u64; 48]) {
     for (number, count) in counts.iter().enumerate() {
         if let Ok(Kind::Call(call)) = Kind::try_from(number as u32) {
-            println!(rt; "{call} {count}")?;
+            let _ = println!(rt; "{call} {count}");
         }
     }
-    Ok(())
 }
 
-pub fn all(rt: &HostRuntime, found: Result<Tally, Cut>) -> io::Result<()> {
+pub fn all(rt: &HostRuntime, found: Result<Tally, Cut>) {
     match found {
         Ok(tally) => {
-            calls(rt, &tally.counts)?;
-            println!(rt; "compared {}", tally.cases)?;
+            calls(rt, &tally.counts);
+            let _ = println!(rt; "compared {}", tally.cases);
             if let Some(first) = tally.first {
-                println!(rt; "the first that differs is case {first}")?;
+                let _ = println!(rt; "the first that differs is case {first}");
             }
-            println!(rt; "differences {}", tally.differences)
+            let _ = println!(rt; "differences {}", tally.differences);
         }
         Err(cut) => {
-            println!(rt;
+            let _ = println!(rt;
                 "the list is cut or cannot be read behind case {}",
                 cut.cases
-            )
+            );
         }
     }
 }

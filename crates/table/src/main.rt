@@ -3,7 +3,6 @@
 
 use easing::Easing;
 use loop_mode::Loop;
-use std::io;
 use std::rt::HostRuntime;
 use tween::{Tween, TweenState};
 
@@ -25,22 +24,21 @@ fn ramp() -> Tween {
     }
 }
 
-fn print_table(rt: &HostRuntime) -> io::Result<()> {
+fn print_table(rt: &HostRuntime) {
     let steps = [1.0f32; 16];
     let mut values = [0.0f32; 16];
     let mut folds = [0u32; 16];
     steps::run_steps(ramp(), &steps, &mut values, &mut folds);
-    println!(rt; "   s  setpoint  folds")?;
+    let _ = println!(rt; "   s  setpoint  folds");
     for (i, (value, folds)) in values.iter().zip(&folds).enumerate() {
         // to the nearest hundredth
         let hundredths = math::whole_part(*value * 100.0 + 0.5);
         let (whole, part) = (hundredths / 100, hundredths % 100);
-        println!(rt; "{:>4}{whole:>7}.{part:02}{folds:>7}", i + 1)?;
+        let _ = println!(rt; "{:>4}{whole:>7}.{part:02}{folds:>7}", i + 1);
     }
-    Ok(())
 }
 
-// Where standard output can't be written, the table ends.
+// What can't be written is left out.
 fn main(rt: HostRuntime) {
-    let _written = print_table(&rt);
+    print_table(&rt);
 }

@@ -10,7 +10,8 @@ use std::rt::HostRuntime;
 use tween::Tween;
 
 // The ramp of a file of at most 65,535 bytes. None where there is none, and then standard error has a line
-// that says why.
+// that says why. Not inlined: its buffer is off the stack when the ramp is read.
+#[inline(never)]
 pub fn read_ramp(rt: &HostRuntime, argument: usize) -> Option<Tween> {
     let mut buffer = io::large_buffer();
     let text = read_text(rt, argument, &mut buffer)?;

@@ -1,5 +1,5 @@
 -- Where a push is done, the words are read as the track that it hands back. Assumes nothing.
-use Rattle.std.specs.Prelude.{Err, Ok, Some, Option, Result, Bool, cond, None}
+use Rattle.std.specs.Prelude.{Err, Ok, Result, Bool, cond}
 use Prim.Native.Nat.{ℕ}
 use native.Mathlib.Omega.{arith}
 use mathlib.Core.Path.{◌≡◌, refl, sym, ◌∙◌, ap}
@@ -26,18 +26,18 @@ use Rattle.refusal.specs.Refusing.{done, outcome_of}
 use Rattle.refusal.specs.declared.rejected.Rejected.{Rejected}
 
 -- what is done is done with frames that found their places
-abbrev DoneWith : Track → Option Put → Result Track (Rejected Track) → Type 0
-DoneWith t o (Ok u) = (p : Put) × (o ≡ Some p) × (u ≡ with_frames t p.frames p.count)
+abbrev DoneWith : Track → Result Put Put → Result Track (Rejected Track) → Type 0
+DoneWith t o (Ok u) = (p : Put) × (o ≡ Ok p) × (u ≡ with_frames t p.frames p.count)
 DoneWith t o (Err r) = Unit {0}
 
 module _ (t : Track) (k : Keyframe) where
-  abbrev put : Option Put
+  abbrev put : Result Put Put
   put = put_of t.frames t.count (stored_of k)
 
-  placed-done : (o : Option Put) → DoneWith t o (placed_of t o)
+  placed-done : (o : Result Put Put) → DoneWith t o (placed_of t o)
   unfolding placed_of
-  placed-done (Some p) = (p, refl, refl)
-  placed-done None = tt
+  placed-done (Ok p) = (p, refl, refl)
+  placed-done (Err p) = tt
 
   done-with : DoneWith t (put_of t.frames t.count (stored_of k)) (push_of t k)
   unfolding push_of
@@ -52,16 +52,16 @@ module _ (t : Track) (k : Keyframe) where
       (λ _. tt))
       (λ _. tt)
 
-  few-then : (p : Put) → put_of t.frames t.count (stored_of k) ≡ Some p → leb (length (pushed_of (stored_of k) (frames_in t))) 64 ≡ true
+  few-then : (p : Put) → put_of t.frames t.count (stored_of k) ≡ Ok p → leb (length (pushed_of (stored_of k) (frames_in t))) 64 ≡ true
   unfolding put_of
-  few-then p = go (leb (length (pushed_of (stored_of k) (frames_in t))) 64) _
+  few-then p = go (leb (length (pushed_of (stored_of k) (frames_in t))) 64) _ _
     where
-      go : (b : Bool) (q : Put) → cond b (Some q) None ≡ Some p → b ≡ true
-      go true q e = refl
-      go false q e = let z : ◌≡◌ {A = ℕ} 0 1 = cc in absurd (omega (arith, z))
+      go : (b : Bool) (q r : Put) → cond b (Ok q) (Err r) ≡ Ok p → b ≡ true
+      go true q r e = refl
+      go false q r e = let z : ◌≡◌ {A = ℕ} 0 1 = cc in absurd (omega (arith, z))
 
   -- what an accepted push hands back
-  pushed-with : (a : Result Track (Rejected Track)) → outcome_of a ≡ done → DoneWith t put a → (p : Put) × (put ≡ Some p) × (left_by a ≡ with_frames t p.frames p.count)
+  pushed-with : (a : Result Track (Rejected Track)) → outcome_of a ≡ done → DoneWith t put a → (p : Put) × (put ≡ Ok p) × (left_by a ≡ with_frames t p.frames p.count)
   pushed-with (Ok u) e h = h
   pushed-with (Err r) e h = let z : ◌≡◌ {A = ℕ} 0 1 = cc in absurd (omega (arith, z))
 
@@ -78,4 +78,4 @@ unfolding placed_of
 push-done words row k from ended =
     let t = track_of words in
     let w = pushed-with t k (push_of t k) ended (done-with t k) in
-    sym (ap left_by (push-back words row k from (done-room words row k from ended))) ∙ ap (λ (o : Option Put). left_by (placed_of t o)) w.1 ∙ sym w.2
+    sym (ap left_by (push-back words row k from (done-room words row k from ended))) ∙ ap (λ (o : Result Put Put). left_by (placed_of t o)) w.1 ∙ sym w.2

@@ -1,5 +1,5 @@
 -- The cases of a push into words that pass the check. Assumes nothing.
-use Rattle.std.specs.Prelude.{Err, Some, None}
+use Rattle.std.specs.Prelude.{Err, Ok}
 use Prim.Native.Nat.{ℕ}
 use mathlib.Core.Path.{◌≡◌, refl, ◌∙◌}
 use mathlib.Core.Bool.{Bool, true, false, cond}
@@ -28,7 +28,7 @@ unfolding placed_of put_of
 placed_by t k = go (leb (length (pushed_of k (frames_in t))) 64) (pushed_of k (frames_in t))
   where
     go : (b : Bool) (l : List Keyframe)
-        → outcome_of (placed_of t (cond b (Some (record { frames = l ++ drop (length l) t.frames; count = length l })) None)) ≡ cond b done (Err TrackFull)
+        → outcome_of (placed_of t (cond b (Ok (record { frames = l ++ drop (length l) t.frames; count = length l })) (Err (record { frames = t.frames; count = t.count })))) ≡ cond b done (Err TrackFull)
     go true l = refl
     go false l = refl
 

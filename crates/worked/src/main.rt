@@ -4,18 +4,17 @@
 mod answers;
 mod tracks;
 
-use std::io;
 use std::rt::HostRuntime;
 
-fn print_examples(rt: &HostRuntime) -> io::Result<()> {
+fn print_examples(rt: &HostRuntime) {
     let (k1, k2, k3) = (tracks::k1(), tracks::k2(), tracks::k3());
     for (name, holds) in [("K1", k1), ("K2", k2), ("K3", k3)] {
-        println!(rt; "{name} {}", if holds { "ok" } else { "differs" })?;
+        let _ = println!(rt; "{name} {}", if holds { "ok" } else { "differs" });
     }
-    println!(rt; "end {}", u8::from(k1) + u8::from(k2) + u8::from(k3))
+    let _ = println!(rt; "end {}", u8::from(k1) + u8::from(k2) + u8::from(k3));
 }
 
-// Where standard output can't be written, the lines end.
+// What can't be written is left out.
 fn main(rt: HostRuntime) {
-    let _written = print_examples(&rt);
+    print_examples(&rt);
 }
