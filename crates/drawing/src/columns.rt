@@ -1,4 +1,6 @@
 // What is drawn, by columns of one pixel. Lengths are in tenths of a pixel.
+ghost use Rattle.std.specs.Prelude.{◌≡◌, None};
+
 use crate::course::{Came, Course};
 use crate::frame::{Frame, across, column_at, height_at};
 
@@ -37,7 +39,10 @@ pub struct Table<'a> {
 }
 
 impl Column {
-    pub fn empty() -> Column {
+    // Nothing is drawn yet.
+    pub fn empty() -> Column
+        ensures { result ≡ record { trace = None; passes = 0; bursts = 0; most = 0; gaps = 0; missing = 0; repeats = 0 } }
+    {
         Column {
             trace: None,
             passes: 0,
