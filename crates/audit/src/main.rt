@@ -52,9 +52,9 @@ fn is_called(rt: &HostRuntime) -> bool {
 // A refusal before any record is replayed.
 fn refused(rt: &HostRuntime, refusal: Refusal) {
     let _ = print!(rt; "refused ");
-    tools::say_refusal(STDOUT_FILENO, refusal);
+    tools::say_refusal(STDOUT_FILENO, refusal.number());
     let _ = println!(rt);
-    end_refused(refusal);
+    end_refused(refusal.number());
 }
 
 // The log on an open file.

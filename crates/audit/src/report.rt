@@ -54,7 +54,7 @@ fn lists_lines(rt: &HostRuntime, s: &Survey) {
 fn stopped_line(rt: &HostRuntime, s: &Survey) {
     if let Err(refusal) = s.outcome {
         let _ = print!(rt; "stopped at record {}: ", s.counts.records);
-        tools::say_refusal(STDOUT_FILENO, refusal);
+        tools::say_refusal(STDOUT_FILENO, refusal.number());
         let _ = println!(rt);
     }
 }
@@ -71,7 +71,7 @@ fn value_line(rt: &HostRuntime, found: Result<Found, Refusal>) {
 fn tween_lines(rt: &HostRuntime, t: Tween) {
     let w = words::tween_words(t);
     let _ = print!(rt; "tween state ");
-    tools::say_name(STDOUT_FILENO, names::state(t.state));
+    tools::say_name(STDOUT_FILENO, names::state(w.state).as_bytes());
     let _ = println!(rt);
     float_line(rt, "tween elapsed ", w.elapsed);
     float_line(rt, "tween delay_elapsed ", w.delay_elapsed);
@@ -103,7 +103,7 @@ fn end_line(rt: &HostRuntime, w: &Walk) {
                 counts.gaps, counts.repeats
             );
         }
-        End::Refused(refusal) => tools::end_refused(refusal),
+        End::Refused(refusal) => tools::end_refused(refusal.number()),
         End::Unreadable => tools::end_unreadable(),
     }
 }

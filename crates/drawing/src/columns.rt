@@ -30,8 +30,8 @@ pub struct Column {
     pub repeats: u64,
 }
 
-// All columns, and where in the picture a time and a value stand. They are lent: the columns are some 90 KB, which
-// to build a struct of them would put on the stack three times.
+// All columns, and where in the picture a time and a value stand. The columns are lent: they have some 90 KB, and a
+// struct that is built of them stands on the stack three times.
 #[derive(Clone, Copy)]
 pub struct Table<'a> {
     pub frame: &'a Frame,

@@ -1,7 +1,6 @@
 // A replay on its way, with what the picture needs of it.
 use reader::hear::{Heard, hear};
 use reader::{Replay, step_in};
-use refusal::Refusal;
 use tween::Tween;
 
 // What the last record was: the one before again, or one of its own, with what is missing before it and the
@@ -24,8 +23,8 @@ pub struct Course {
     pub records: u64,
     pub repeats: u64,
     pub came: Came,
-    // What stops it.
-    pub refused: Option<Refusal>,
+    // The number of the refusal that stops it: a picture says no more of it.
+    pub refused: Option<u32>,
 }
 
 // The value of a tween, where it has a finite one.
@@ -93,7 +92,7 @@ impl Course {
                 u64::from(heard.gap),
                 f64::from(step_in(bytes)),
             ),
-            Err(refusal) => self.refused = Some(refusal),
+            Err(refusal) => self.refused = Some(refusal.number()),
         }
     }
 
@@ -109,7 +108,7 @@ impl Course {
                 };
                 self.go(to, 0, f64::from(step));
             }
-            Err(rejected) => self.refused = Some(rejected.refusal),
+            Err(rejected) => self.refused = Some(rejected.refusal.number()),
         }
     }
 }

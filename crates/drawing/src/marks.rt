@@ -53,12 +53,9 @@ pub fn marks(rt: &HostRuntime, table: &Table<'_>, c: &Course) {
 
 // A red line where a record is refused.
 pub fn stop(rt: &HostRuntime, table: &Table<'_>, c: &Course) {
-    if let Some(refusal) = c.refused {
+    if let Some(number) = c.refused {
         let top = Point(across(&table.frame.time, c.time), HIGH);
         let _ = println!(rt; "<path class=\"stop\" d=\"M{top}v282\"/>");
-        let _ = println!(rt;
-            "<text class=\"stopped\" x=\"950\" y=\"76\">refused {}</text>",
-            refusal.number()
-        );
+        let _ = println!(rt; "<text class=\"stopped\" x=\"950\" y=\"76\">refused {number}</text>");
     }
 }

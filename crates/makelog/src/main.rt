@@ -57,9 +57,9 @@ fn wrong(rt: &HostRuntime, text: &[u8], fault: Fault) {
 fn refused(rt: &HostRuntime, line: u64, refusal: Refusal) {
     tools::say_argument(rt, STDERR_FILENO, 1);
     let _ = eprint!(rt; ", line {line}: refused ");
-    tools::say_refusal(STDERR_FILENO, refusal);
+    tools::say_refusal(STDERR_FILENO, refusal.number());
     let _ = eprintln!(rt);
-    tools::end_refused(refusal);
+    tools::end_refused(refusal.number());
 }
 
 fn write(rt: &HostRuntime, text: &[u8]) {
@@ -100,7 +100,7 @@ fn main(rt: HostRuntime) {
     }
     let mut buffer = io::large_buffer();
     match tools::read_text(&rt, 1, &mut buffer) {
-        Some(text) => run(&rt, text),
-        None => tools::end_unreadable(),
+        Ok(text) => run(&rt, text),
+        Err(_) => tools::end_unreadable(),
     }
 }

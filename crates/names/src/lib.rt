@@ -4,7 +4,6 @@
 use easing::Easing;
 use loop_mode::Loop;
 use refusal::Refusal;
-use tween::TweenState;
 
 // By the number of a kind, its place in `all_named`.
 const EASINGS: [&str; 38] = [
@@ -63,12 +62,14 @@ pub fn mode(mode: Loop) -> &'static str {
     }
 }
 
-pub fn state(state: TweenState) -> &'static str {
-    match state {
-        TweenState::Idle => "Idle",
-        TweenState::Running => "Running",
-        TweenState::Paused => "Paused",
-        TweenState::Completed => "Completed",
+// Of a tween's state as a word, from 0, which a caller may have alone; empty for a word of none.
+pub fn state(word: u32) -> &'static str {
+    match word {
+        0 => "Idle",
+        1 => "Running",
+        2 => "Paused",
+        3 => "Completed",
+        _ => "",
     }
 }
 

@@ -14,7 +14,7 @@ pub fn unread(rt: &HostRuntime) {
 pub fn refuse(rt: &HostRuntime, argument: usize, refusal: Refusal) {
     tools::say_argument(rt, STDERR_FILENO, argument);
     tools::say(STDERR_FILENO, b": refused ");
-    tools::say_refusal(STDERR_FILENO, refusal);
+    tools::say_refusal(STDERR_FILENO, refusal.number());
     tools::say(STDERR_FILENO, b"\n");
-    tools::end_refused(refusal);
+    tools::end_refused(refusal.number());
 }

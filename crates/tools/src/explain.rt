@@ -1,4 +1,8 @@
 // What is wrong, in words.
+ghost use Rattle.std.specs.Prelude.{◌≡◌, IfSome, Some};
+ghost use Rattle.refusal.specs.declared.Refusal.{Refusal};
+ghost use Rattle.refusal.specs.Number.{number_of};
+
 use crate::files::say_argument;
 use crate::quoting::Quote;
 use crate::saying::{STDERR_FILENO, say_text};
@@ -7,7 +11,7 @@ use refusal::Refusal;
 use std::fmt;
 use std::rt::HostRuntime;
 
-// What stands in a text where a fault is.
+// What stands in a text where a fault is; nothing where the word is another text's.
 #[derive(Clone, Copy)]
 struct Found<'a> {
     text: &'a [u8],
@@ -17,7 +21,10 @@ struct Found<'a> {
 impl<'a> fmt::Display for Found<'a> {
     fn fmt<W: fmt::Write>(&self, f: &mut fmt::Formatter<W>) -> fmt::Result {
         let word = self.word;
-        if !word.is_missing() {
+        if word.to > self.text.len() {
+            return Ok(());
+        }
+        if word.from < word.to {
             return write!(f, "{}", Quote(word.bytes(self.text)));
         }
         if word.to == self.text.len() {
@@ -67,15 +74,41 @@ fn why(refusal: Refusal) -> &'static str {
     }
 }
 
-// The number, the name, and why.
-pub fn say_refusal(fd: i32, refusal: Refusal) {
-    say_text(
-        fd,
-        format_args!(
-            "{} {}: {}",
-            refusal.number(),
-            names::refusal(refusal),
-            why(refusal)
+// The refusal with a number, if one has it.
+fn refusal_of(number: u32) -> Option<Refusal>
+    ensures numbered { IfSome result (λ refusal. number_of refusal ≡ number) }
+    ensures every { (refusal : Refusal) → number_of refusal ≡ number → result ≡ Some refusal }
+{
+    match number {
+        1 => Some(Refusal::ProgressIsNan),
+        2 => Some(Refusal::EasingNotSupplied),
+        3 => Some(Refusal::EasingParameter),
+        4 => Some(Refusal::RecordBreaksLimit),
+        5 => Some(Refusal::StepTooLong),
+        6 => Some(Refusal::StepLost),
+        7 => Some(Refusal::TooManyFolds),
+        8 => Some(Refusal::ElapsedTooLong),
+        9 => Some(Refusal::TrackFull),
+        10 => Some(Refusal::NoFrames),
+        11 => Some(Refusal::TrackLimit),
+        12 => Some(Refusal::OutputTooShort),
+        13 => Some(Refusal::NoRoom),
+        14 => Some(Refusal::StepBelowZero),
+        15 => Some(Refusal::WrongMark),
+        16 => Some(Refusal::UnknownVersion),
+        17 => Some(Refusal::WrongLength),
+        18 => Some(Refusal::WrongRecord),
+        _ => None,
+    }
+}
+
+// The number, the name, and why. A caller may have the number alone, and one that no refusal has.
+pub fn say_refusal(fd: i32, number: u32) {
+    match refusal_of(number) {
+        Some(refusal) => say_text(
+            fd,
+            format_args!("{number} {}: {}", names::refusal(refusal), why(refusal)),
         ),
-    );
+        None => say_text(fd, format_args!("{number} : no refusal has this number")),
+    }
 }

@@ -1,5 +1,5 @@
 // Files by argument.
-ghost use Rattle.std.specs.Prelude.{◌≤◌, length, IfSome};
+ghost use Rattle.std.specs.Prelude.{◌≤◌, length, IfOk, IfErr};
 ghost use Rattle.io.specs.Counts.{IsPrefixLen};
 
 use crate::quoting::Plain;
@@ -135,23 +135,27 @@ pub fn fill_from<'a>(
     }
 }
 
-// The whole text of the file that an argument names, which has to be shorter than the buffer. None where
-// there is none, and then standard error has a line that says why.
-pub fn read_text<'a>(rt: &HostRuntime, i: usize, buffer: &'a mut [u8]) -> Option<&'a [u8]>
-    ensures { IfSome result (λ text. length text.now ≤ length buffer.old) }
+// The whole text of the file that an argument names, which has to be shorter than the buffer. An error has what was
+// read before a read failed, nothing where the file can't be opened or is too long; standard error has a line that
+// says why.
+pub fn read_text<'a>(rt: &HostRuntime, i: usize, buffer: &'a mut [u8]) -> Result<&'a [u8], &'a [u8]>
+    ensures text { IfOk result (λ text. length text.now ≤ length buffer.old) }
+    ensures before { IfErr result (λ bytes. length bytes.now ≤ length buffer.old) }
 {
-    let mut file = open_argument(rt, i)?;
+    let Some(mut file) = open_argument(rt, i) else {
+        return Err(&[]);
+    };
     let most = buffer.len();
     let filled = fill_from(rt, &mut file, i, buffer);
     if filled.failed {
-        return None;
+        return Err(filled.bytes);
     }
     if filled.bytes.len() == most {
         say_argument(rt, STDERR_FILENO, i);
         say(STDERR_FILENO, b": the file is too long\n");
-        return None;
+        return Err(&[]);
     }
-    Some(filled.bytes)
+    Ok(filled.bytes)
 }
 
 // The length of a file, whose position goes to its start. None where it has none, as a pipe.

@@ -14,7 +14,7 @@ use tween::Tween;
 #[inline(never)]
 pub fn read_ramp(rt: &HostRuntime, argument: usize) -> Option<Tween> {
     let mut buffer = io::large_buffer();
-    let text = read_text(rt, argument, &mut buffer)?;
+    let text = read_text(rt, argument, &mut buffer).ok()?;
     match parse_ramp(text) {
         Ok(tween) => Some(tween),
         Err(fault) => {

@@ -35,6 +35,11 @@ pub fn say_float(fd: i32, x: f32) {
     say_text(fd, InRamp(x));
 }
 
-pub fn say_name(fd: i32, name: &str) {
-    say(fd, name.as_bytes());
+// Without the blanks behind it.
+pub fn say_name(fd: i32, name: &[u8]) {
+    let length = name
+        .iter()
+        .rposition(|b| *b != b' ')
+        .map_or(0, |last| last + 1);
+    say(fd, &name[..length]);
 }

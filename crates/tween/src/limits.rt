@@ -40,7 +40,7 @@ fn clock_within(t: Tween) -> bool
 
 // No type holds what this says: a tween's fields are public, a step sets four of them one by one, and every tween
 // is taken, to be refused with 4 where it breaks a limit. So inner steps ask for it, or for the part they need.
-// Not inlined: each of C's calls would have a copy, 6 KB on a Cortex-M4F in all, and a reset took half as long again.
+// Not inlined: copies in C's calls would have 6 KB on a Cortex-M4F, and a reset took a quarter to a half longer.
 #[tactic(auto, unfolding(crate::specs::Limits::within_of))]
 #[inline(never)]
 pub fn within(t: Tween) -> bool
