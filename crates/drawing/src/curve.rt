@@ -1,15 +1,14 @@
 // The setpoint as one path.
 use crate::columns::{Table, Trace};
 use chart::svg::{Point, Tenths};
-use std::rt::HostRuntime;
 
 // A line straight up or down, to a height.
-fn rise(rt: &HostRuntime, to: u64) {
+fn rise(rt: &impl Print, to: u64) {
     let _ = print!(rt; "V{}", Tenths(to));
 }
 
 // The highest and lowest points of a column, where the curve does not enter or leave there.
-fn extremes(rt: &HostRuntime, trace: &Trace) {
+fn extremes(rt: &impl Print, trace: &Trace) {
     let (top, bottom) = (trace.top, trace.bottom);
     if trace.enters < trace.leaves {
         if top < trace.enters {
@@ -29,7 +28,7 @@ fn extremes(rt: &HostRuntime, trace: &Trace) {
 }
 
 // The curve in a column, behind the letter that leads to it.
-fn through(rt: &HostRuntime, trace: &Trace, letter: char) {
+fn through(rt: &impl Print, trace: &Trace, letter: char) {
     let _ = print!(rt; "{letter}{}", Point(trace.enters_at, trace.enters));
     if (trace.enters_at == trace.leaves_at) & (trace.top == trace.bottom) {
         return;
@@ -38,7 +37,7 @@ fn through(rt: &HostRuntime, trace: &Trace, letter: char) {
     let _ = print!(rt; "L{}", Point(trace.leaves_at, trace.leaves));
 }
 
-pub fn curve(rt: &HostRuntime, table: &Table<'_>) {
+pub fn curve(rt: &impl Print, table: &Table<'_>) {
     let _ = print!(rt; "<path class=\"curve\" d=\"");
     let mut letter = 'M';
     for column in table.columns {
@@ -51,7 +50,7 @@ pub fn curve(rt: &HostRuntime, table: &Table<'_>) {
 }
 
 // Where the time is 0 there is a point and no curve.
-pub fn point(rt: &HostRuntime, table: &Table<'_>) {
+pub fn point(rt: &impl Print, table: &Table<'_>) {
     if let Some(trace) = &table.columns[0].trace {
         let _ = println!(rt;
             "<circle r=\"4\" class=\"point\" cx=\"80\" cy=\"{}\"/>",

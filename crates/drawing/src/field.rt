@@ -3,7 +3,6 @@ use crate::frame::{Frame, HIGH, LEFT, LOW, RIGHT, across, down};
 use chart::axis::Axis;
 use chart::svg::{Point, Tenths};
 use chart::ticks::Tick;
-use std::rt::HostRuntime;
 
 // Draws something at each tick of an axis, which has fewer than 20.
 fn at_ticks<F: Fn(f64, Tick)>(axis: &Axis, draw: F)
@@ -20,7 +19,7 @@ fn at_ticks<F: Fn(f64, Tick)>(axis: &Axis, draw: F)
 }
 
 // The lines of the grid, as one path.
-pub fn grid(rt: &HostRuntime, frame: &Frame) {
+pub fn grid(rt: &impl Print, frame: &Frame) {
     let _ = print!(rt; "<path class=\"grid\" d=\"");
     at_ticks(&frame.time, |x, _| {
         let _ = print!(rt; "M{}V{}", Point(across(&frame.time, x), LOW), Tenths(HIGH));
@@ -32,7 +31,7 @@ pub fn grid(rt: &HostRuntime, frame: &Frame) {
 }
 
 // A number, in a class of texts.
-fn number(rt: &HostRuntime, class: char, x: u64, y: u64, tick: Tick) {
+fn number(rt: &impl Print, class: char, x: u64, y: u64, tick: Tick) {
     let _ = println!(rt;
         "<text class=\"{class}\" x=\"{}\" y=\"{}\">{tick}</text>",
         Tenths(x),
@@ -41,7 +40,7 @@ fn number(rt: &HostRuntime, class: char, x: u64, y: u64, tick: Tick) {
 }
 
 // The two axes with their numbers, below the field and to its left, and names.
-pub fn axes(rt: &HostRuntime, frame: &Frame) {
+pub fn axes(rt: &impl Print, frame: &Frame) {
     let _ = println!(rt; "<path class=\"axis\" d=\"M80,88V370H920\"/>");
     at_ticks(&frame.time, |x, tick| {
         number(rt, 't', across(&frame.time, x), LOW + 170, tick);

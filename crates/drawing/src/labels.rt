@@ -5,7 +5,6 @@ use crate::columns::{Column, Table};
 use crate::frame::{HIGH, LEFT, width};
 use crate::marks::middle;
 use chart::svg::{Point, Tenths};
-use std::rt::HostRuntime;
 
 // What a row has labels of: updates with more than one pass, or gaps.
 #[derive(Clone, Copy)]
@@ -56,7 +55,7 @@ impl Kind {
     }
 
     // The passes of an update have a line over the whole height.
-    fn draw(self, rt: &HostRuntime, label: Label) {
+    fn draw(self, rt: &impl Print, label: Label) {
         let (x, y, n) = (Tenths(label.from), Tenths(self.height()), label.n);
         match self {
             Kind::Passes => {
@@ -114,7 +113,7 @@ fn lay<F: Fn(Label)>(table: &Table<'_>, kind: Kind, limit: u64, draw: F) -> u64
 }
 
 // One row, with room at its end for what is left out.
-fn row(rt: &HostRuntime, table: &Table<'_>, kind: Kind, limit: u64) {
+fn row(rt: &impl Print, table: &Table<'_>, kind: Kind, limit: u64) {
     let left = lay(table, kind, limit, |_| {});
     let cut = if left > 0 { width(left) + 260 } else { 0 };
     let more = lay(
@@ -130,7 +129,7 @@ fn row(rt: &HostRuntime, table: &Table<'_>, kind: Kind, limit: u64) {
 }
 
 // The passes above, what is missing below them.
-pub fn labels(rt: &HostRuntime, table: &Table<'_>, stops: bool) {
+pub fn labels(rt: &impl Print, table: &Table<'_>, stops: bool) {
     row(rt, table, Kind::Passes, 9500);
     row(rt, table, Kind::Missing, if stops { 8700 } else { 9500 });
 }

@@ -8,5 +8,6 @@ mod field;
 pub mod frame;
 mod labels;
 mod marks;
+mod page;
 pub mod picture;
 mod title;

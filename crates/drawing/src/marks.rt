@@ -3,7 +3,6 @@ use crate::columns::{Column, Table};
 use crate::course::Course;
 use crate::frame::{HIGH, LOW, across};
 use chart::svg::Point;
-use std::rt::HostRuntime;
 
 // The middle of a column.
 pub fn middle(column: usize) -> u64 {
@@ -12,7 +11,7 @@ pub fn middle(column: usize) -> u64 {
 
 // The same shape in each column that has something of a kind, as a path in its class.
 fn shapes<F: Fn(&Column) -> u64>(
-    rt: &HostRuntime,
+    rt: &impl Print,
     table: &Table<'_>,
     class: &str,
     count: F,
@@ -32,7 +31,7 @@ fn shapes<F: Fn(&Column) -> u64>(
 
 // A band over the whole height for what is missing, ticks below the axis for passes, and triangles above
 // the field for repeats.
-pub fn marks(rt: &HostRuntime, table: &Table<'_>, c: &Course) {
+pub fn marks(rt: &impl Print, table: &Table<'_>, c: &Course) {
     if c.replay.missing > 0 {
         shapes(rt, table, "gap", |column| column.gaps, HIGH, "v282");
     }
@@ -52,7 +51,7 @@ pub fn marks(rt: &HostRuntime, table: &Table<'_>, c: &Course) {
 }
 
 // A red line where a record is refused.
-pub fn stop(rt: &HostRuntime, table: &Table<'_>, c: &Course) {
+pub fn stop(rt: &impl Print, table: &Table<'_>, c: &Course) {
     if let Some(number) = c.refused {
         let top = Point(across(&table.frame.time, c.time), HIGH);
         let _ = println!(rt; "<path class=\"stop\" d=\"M{top}v282\"/>");

@@ -1,13 +1,17 @@
 // The whole picture.
+#[cfg(test)]
+mod tests;
+
 use crate::columns::Table;
 use crate::course::Course;
 use crate::curve::{curve, point};
 use crate::field::{axes, grid};
 use crate::labels::labels;
 use crate::marks::{marks, stop};
+use crate::page::{Paper, up_to_error};
 use crate::title::title;
-use std::fmt;
 use std::rt::HostRuntime;
+use std::{fmt, io};
 use tween::Tween;
 
 // The start of the file with the look of each class, by lines.
@@ -44,7 +48,7 @@ impl<'a> fmt::Display for Count<'a> {
 }
 
 // The counts of what is marked, and the end of their line.
-fn print_marks(rt: &HostRuntime, c: &Course) {
+fn print_marks(rt: &impl Print, c: &Course) {
     let passes = Count {
         n: c.replay.folds,
         sign: "|",
@@ -74,7 +78,7 @@ pub struct Shown {
 }
 
 // Which passes they are, where they are not all.
-fn print_shown(rt: &HostRuntime, shown: Shown) {
+fn print_shown(rt: &impl Print, shown: Shown) {
     match shown.of {
         Some(all) if all == shown.passes => {}
         Some(all) => {
@@ -87,7 +91,7 @@ fn print_shown(rt: &HostRuntime, shown: Shown) {
 }
 
 // All below the two lines of text.
-fn body(rt: &HostRuntime, table: &Table<'_>, c: &Course) {
+fn body(rt: &impl Print, table: &Table<'_>, c: &Course) {
     let frame = table.frame;
     grid(rt, frame);
     axes(rt, frame);
@@ -102,7 +106,7 @@ fn body(rt: &HostRuntime, table: &Table<'_>, c: &Course) {
 }
 
 // The start of the line below the title, behind all above it.
-fn open(rt: &HostRuntime, t: Tween) {
+fn open(rt: &impl Paper, t: Tween) {
     for line in HEAD {
         let _ = println!(rt; "{line}");
     }
@@ -110,8 +114,9 @@ fn open(rt: &HostRuntime, t: Tween) {
     let _ = print!(rt; "<text class=\"sum\" x=\"80\" y=\"40\">");
 }
 
-// The picture of a log that was replayed into a ramp.
-pub fn picture_of_log(rt: &HostRuntime, t: Tween, table: &Table<'_>, c: &Course) {
+// Prints the picture of a log that was replayed into a ramp. On the runtime's handle what can't be written is left
+// out. The title's numbers, mode and easing are printed by `tools`, which answers no error.
+pub fn print_log(rt: &impl Paper, t: Tween, table: &Table<'_>, c: &Course) {
     open(rt, t);
     let noun = if c.records == 1 { "record" } else { "records" };
     let _ = print!(rt; "{} {noun}", c.records);
@@ -119,11 +124,27 @@ pub fn picture_of_log(rt: &HostRuntime, t: Tween, table: &Table<'_>, c: &Course)
     body(rt, table, c);
 }
 
-// The picture of a ramp alone.
-pub fn picture_of_ramp(rt: &HostRuntime, t: Tween, table: &Table<'_>, c: &Course, shown: Shown) {
+// Prints the picture of a ramp alone.
+pub fn print_ramp(rt: &impl Paper, t: Tween, table: &Table<'_>, c: &Course, shown: Shown) {
     open(rt, t);
     let _ = print!(rt; "the ramp alone");
     print_shown(rt, shown);
     print_marks(rt, c);
     body(rt, table, c);
+}
+
+// `print_log` up to the first error, which is answered, but for what `tools` prints.
+pub fn picture_of_log(rt: &HostRuntime, t: Tween, table: &Table, c: &Course) -> io::Result<()> {
+    up_to_error(rt, |page| print_log(page, t, table, c))
+}
+
+// `print_ramp` up to the first error, as `picture_of_log`.
+pub fn picture_of_ramp(
+    rt: &HostRuntime,
+    t: Tween,
+    table: &Table,
+    c: &Course,
+    shown: Shown,
+) -> io::Result<()> {
+    up_to_error(rt, |page| print_ramp(page, t, table, c, shown))
 }

@@ -2,7 +2,7 @@
 use drawing::columns::{COLUMNS, Column, Table, note};
 use drawing::course::Course;
 use drawing::frame::frame_of;
-use drawing::picture::{Shown, picture_of_ramp};
+use drawing::picture::{Shown, print_ramp};
 use std::rt::HostRuntime;
 use tween::Tween;
 
@@ -61,5 +61,5 @@ pub fn draw_alone(rt: &HostRuntime, t: Tween) {
         frame: &frame,
         columns: &columns,
     };
-    picture_of_ramp(rt, t, &table, &c, shown);
+    print_ramp(rt, t, &table, &c, shown);
 }

@@ -3,7 +3,7 @@ use crate::refusing::{refuse, unread};
 use drawing::columns::{COLUMNS, Column, Table, note};
 use drawing::course::Course;
 use drawing::frame::frame_of;
-use drawing::picture::picture_of_log;
+use drawing::picture::print_log;
 use reader::record_at;
 use refusal::Refusal;
 use std::fs::File;
@@ -84,7 +84,7 @@ fn draw_parts(rt: &HostRuntime, file: &mut File, t: Tween, parts: u64) {
         frame: &frame,
         columns: &columns,
     };
-    picture_of_log(rt, t, &table, &c);
+    print_log(rt, t, &table, &c);
 }
 
 // A file of so many bytes.
